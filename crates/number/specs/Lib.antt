@@ -1,1 +1,4 @@
 pub mod Limits
+pub mod Zeros
+pub mod Sizes
+pub mod Laws
