@@ -1,0 +1,2 @@
+// The style of a grid item: its alignments, lengths and modes, and the ranges that its numbers keep.
+pub mod alignment;
