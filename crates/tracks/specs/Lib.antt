@@ -1,0 +1,2 @@
+pub mod Distribution
+pub mod Tracks
