@@ -4,8 +4,12 @@ use crate::track_alignment::TrackAlignment;
 use geometry::Line;
 use style::alignment::AlignContent;
 ghost use mathlib.Core.Path.{_≡_};
-ghost use mathlib.Core.List.{reverse};
+ghost use mathlib.Core.List.{List, reverse};
+ghost use Prim.Native.Nat.{_≤_};
+ghost use lib.ListN.{length};
 ghost use Rattle.tracks.specs.Tracks.{plus, positioned, onward, walked, start-walk, in-order, aligned};
+ghost use Rattle.tracks.specs.Aligned.{Aligned};
+ghost use Rattle.tracks.specs.Ranges.{In-range, Well-placed};
 
 // Where the walk stands: the next free place, whether a live track was seen, and the parity of the index that comes next.
 #[derive(Clone, Copy)]
@@ -96,6 +100,9 @@ pub fn align_tracks(
     axis_is_reversed: bool,
 )
     ensures value { λ _. ⌜ now (tracks .exit) ≡ aligned «grid_container_content_box_size» (plus (padding .start) (border .start)) «track_alignment_style» «axis_is_reversed» (now (tracks .entry)) ⌝ }
+    ensures law { λ _. ⌜ (length (now (tracks .entry)) ≤ 513 → Aligned «grid_container_content_box_size» (plus (padding .start) (border .start)) «track_alignment_style» «axis_is_reversed» (now (tracks .entry)) (now (tracks .exit))) ⌝ }
+    ensures only { λ _. ⌜ ((us : List GridTrack) → Aligned «grid_container_content_box_size» (plus (padding .start) (border .start)) «track_alignment_style» «axis_is_reversed» (now (tracks .entry)) us → us ≡ now (tracks .exit)) ⌝ }
+    ensures placed { λ _. ⌜ (In-range «grid_container_content_box_size» padding border (now (tracks .entry)) → Well-placed «axis_is_reversed» (now (tracks .exit))) ⌝ }
 {
     let alignment = TrackAlignment::of(
         grid_container_content_box_size,
