@@ -24,7 +24,7 @@ use Rattle.tracks.specs.Distribution as Distribution
 use Rattle.tracks.specs.Distribution.{used-alignment}
 use Rattle.tracks.specs.Tracks.{plus, live, live-count, base-sizes, used-size, free-space, along-axis, track-alignment, begins, begin, positioned, onward, walked, start-place, starts-odd, start-walk, in-order, aligned}
 use Rattle.tracks.specs.Aligned.{Chain, end, odd-at, any-live, Apart}
-use Rattle.tracks.specs.Ranges.{In-range, Well-placed}
+use Rattle.tracks.specs.Laws.{In-range, Well-placed}
 use Rattle.tracks.specs.declared.grid_track.GridTrack.{GridTrack}
 use Rattle.tracks.specs.declared.track_alignment.TrackAlignment.{TrackAlignment}
 use Rattle.tracks.specs.declared.walk.TrackWalk.{TrackWalk}

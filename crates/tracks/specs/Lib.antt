@@ -1,4 +1,4 @@
 pub mod Distribution
 pub mod Tracks
 pub mod Aligned
-pub mod Ranges
+pub mod Laws

@@ -4,12 +4,9 @@ use crate::track_alignment::TrackAlignment;
 use geometry::Line;
 use style::alignment::AlignContent;
 ghost use mathlib.Core.Path.{_≡_};
-ghost use mathlib.Core.List.{List, reverse};
-ghost use Prim.Native.Nat.{_≤_};
-ghost use lib.ListN.{length};
+ghost use mathlib.Core.List.{reverse};
 ghost use Rattle.tracks.specs.Tracks.{plus, positioned, onward, walked, start-walk, in-order, aligned};
-ghost use Rattle.tracks.specs.Aligned.{Aligned};
-ghost use Rattle.tracks.specs.Ranges.{In-range, Well-placed};
+ghost use Rattle.tracks.specs.Laws.{Laws};
 
 // Where the walk stands: the next free place, whether a live track was seen, and the parity of the index that comes next.
 #[derive(Clone, Copy)]
@@ -60,13 +57,15 @@ fn walk_backward(tracks: &mut [GridTrack], start: TrackWalk)
 
 // The walk before its first track, which on a reversed axis is the last one stored.
 fn start_walk(
-    origin: f32,
+    padding: Line<f32>,
+    border: Line<f32>,
     alignment: TrackAlignment,
     axis_is_reversed: bool,
     len: usize,
 ) -> TrackWalk
-    ensures { λ r. ⌜ r ≡ start-walk origin alignment «axis_is_reversed» len ⌝ }
+    ensures { λ r. ⌜ r ≡ start-walk (plus (padding .start) (border .start)) alignment «axis_is_reversed» len ⌝ }
 {
+    let origin = padding.start + border.start;
     let place = if alignment.num_tracks == 0 {
         origin + alignment.first_share
     } else {
@@ -100,9 +99,7 @@ pub fn align_tracks(
     axis_is_reversed: bool,
 )
     ensures value { λ _. ⌜ now (tracks .exit) ≡ aligned «grid_container_content_box_size» (plus (padding .start) (border .start)) «track_alignment_style» «axis_is_reversed» (now (tracks .entry)) ⌝ }
-    ensures law { λ _. ⌜ (length (now (tracks .entry)) ≤ 513 → Aligned «grid_container_content_box_size» (plus (padding .start) (border .start)) «track_alignment_style» «axis_is_reversed» (now (tracks .entry)) (now (tracks .exit))) ⌝ }
-    ensures only { λ _. ⌜ ((us : List GridTrack) → Aligned «grid_container_content_box_size» (plus (padding .start) (border .start)) «track_alignment_style» «axis_is_reversed» (now (tracks .entry)) us → us ≡ now (tracks .exit)) ⌝ }
-    ensures placed { λ _. ⌜ (In-range «grid_container_content_box_size» padding border (now (tracks .entry)) → Well-placed «axis_is_reversed» (now (tracks .exit))) ⌝ }
+    ensures laws { λ _. ⌜ Laws «grid_container_content_box_size» padding border «track_alignment_style» «axis_is_reversed» (now (tracks .entry)) (now (tracks .exit)) ⌝ }
 {
     let alignment = TrackAlignment::of(
         grid_container_content_box_size,
@@ -110,7 +107,6 @@ pub fn align_tracks(
         track_alignment_style,
         axis_is_reversed,
     );
-    let origin = padding.start + border.start;
-    let start = start_walk(origin, alignment, axis_is_reversed, tracks.len());
+    let start = start_walk(padding, border, alignment, axis_is_reversed, tracks.len());
     walk_tracks(tracks, start, axis_is_reversed);
 }

@@ -4,7 +4,7 @@ use borrow.Author.Needs.{needs}
 use lib.Ieee.{Float}
 use Rattle.tracks.specs.Tracks.{plus, aligned}
 use Rattle.tracks.specs.Aligned.{Aligned}
-use Rattle.tracks.specs.Ranges.{Well-placed}
+use Rattle.tracks.specs.Laws.{Well-placed}
 use Rattle.tracks.specs.declared.grid_track.GridTrack.{GridTrack}
 use Rattle.tracks.proofs.Laws.{aligned-law, only-aligned}
 use Rattle.tracks.proofs.Finite.{well-placed}
@@ -22,7 +22,9 @@ returns c =
     let value : c .walk-tracks .last .tracks ≡ aligned content origin style rev ts = search needs in
     record {
       value = value;
-      law = λ few. subst (Aligned content origin style rev ts) (sym value) (aligned-law content origin style rev ts few);
-      only = λ us a. only-aligned content origin style rev ts us a ∙ sym value;
-      placed = λ r. subst (Well-placed rev) (sym value) (well-placed content padding border style rev ts r);
+      laws = record {
+        aligned = λ few. subst (Aligned content origin style rev ts) (sym value) (aligned-law content origin style rev ts few);
+        no-other = λ us a. only-aligned content origin style rev ts us a ∙ sym value;
+        placed = λ r. subst (Well-placed rev) (sym value) (well-placed content padding border style rev ts r);
+      };
     }
