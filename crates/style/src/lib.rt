@@ -2,4 +2,5 @@
 pub mod alignment;
 pub mod length;
 pub mod modes;
+pub mod range;
 pub mod style;
