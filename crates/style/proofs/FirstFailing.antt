@@ -2,9 +2,10 @@
 use mathlib.Core.Path.{_≡_, refl, ap}
 use mathlib.Core.Bool.{Bool, true, false, cond}
 use mathlib.Core.List.{List, [], _∷_, _++_, map}
-use Prim.Native.Nat.{ℕ}
+use Prim.Native.Nat.{ℕ, zero, suc}
 use native.Mathlib.Omega.{arith}
 use lib.Dec.{T}
+use lib.ListN.{drop}
 use Rattle.std.specs.declared.option.Option.{Option}
 use Rattle.std.specs.declared.option.Option.the-variants.{None, Some}
 use Rattle.style.specs.FirstFailing.{first-failing, Every, Fails-first}
@@ -22,6 +23,15 @@ group passes f (x ∷ xs) ys rest e =
       | true ↦ group passes f xs ys rest e
       | false ↦ refl
     ]
+
+pub every : {X : Type 0} (passes : X → Bool) (xs : List X) → ((x : X) → T (passes x)) → Every passes xs
+every passes [] h = tt
+every passes (x ∷ xs) h = (h x, every passes xs h)
+
+pub every-later : {X : Type 0} (passes : X → Bool) (n : ℕ) (xs : List X) → Every passes xs → Every passes (drop n xs)
+every-later passes zero xs h = h
+every-later passes (suc n) [] h = tt
+every-later passes (suc n) (x ∷ xs) h = every-later passes n xs (h .1)
 
 some-not-none : {X : Type 0} (x : X) → Some x ≡ None → ⊥
 some-not-none x e = let z : _≡_ {A = ℕ} 0 1 = cc in omega arith

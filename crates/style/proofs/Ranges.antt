@@ -16,7 +16,7 @@ use Rattle.style.specs.declared.range.Side.{Side}
 use Rattle.style.specs.declared.range.Side.the-variants.{Left, Right, Top, Bottom}
 use Rattle.style.specs.declared.range.StyleField.{StyleField}
 use Rattle.style.specs.declared.range.StyleField.the-variants as field
-use Rattle.style.proofs.FirstFailing.{or-rest, group, none-fails, all-pass, named-first}
+use Rattle.style.proofs.FirstFailing.{or-rest, group, every, every-later, none-fails, all-pass, named-first}
 
 abbrev pub by-groups : Style → Option StyleField
 by-groups s =
@@ -73,18 +73,13 @@ at-axis P h Vertical = h .1 .0
 every-field : (passes : StyleField → Bool) → Every passes reading-order → (f : StyleField) → T (passes f)
 every-field passes h field.ScrollbarWidth = h .0
 every-field passes h field.AspectRatio = h .1 .0
-every-field passes h (field.Inset side) = at-side (λ x. T (passes (field.Inset x))) (h .1 .1) side
-every-field passes h (field.Padding side) = at-side (λ x. T (passes (field.Padding x))) (h .1 .1 .1 .1 .1 .1) side
-every-field passes h (field.Border side) = at-side (λ x. T (passes (field.Border x))) (h .1 .1 .1 .1 .1 .1 .1 .1 .1 .1) side
-every-field passes h (field.Size axis) = at-axis (λ x. T (passes (field.Size x))) (h .1 .1 .1 .1 .1 .1 .1 .1 .1 .1 .1 .1 .1 .1) axis
-every-field passes h (field.MinSize axis) = at-axis (λ x. T (passes (field.MinSize x))) (h .1 .1 .1 .1 .1 .1 .1 .1 .1 .1 .1 .1 .1 .1 .1 .1) axis
-every-field passes h (field.MaxSize axis) = at-axis (λ x. T (passes (field.MaxSize x))) (h .1 .1 .1 .1 .1 .1 .1 .1 .1 .1 .1 .1 .1 .1 .1 .1 .1 .1) axis
-every-field passes h (field.Margin side) = at-side (λ x. T (passes (field.Margin x))) (h .1 .1 .1 .1 .1 .1 .1 .1 .1 .1 .1 .1 .1 .1 .1 .1 .1 .1 .1 .1) side
-
--- and what holds of every value holds of those in the order of reading
-every-read : {X : Type 0} (passes : X → Bool) (xs : List X) → ((x : X) → T (passes x)) → Every passes xs
-every-read passes [] h = tt
-every-read passes (x ∷ xs) h = (h x, every-read passes xs h)
+every-field passes h (field.Inset side) = at-side (λ x. T (passes (field.Inset x))) (every-later passes 2 reading-order h) side
+every-field passes h (field.Padding side) = at-side (λ x. T (passes (field.Padding x))) (every-later passes 6 reading-order h) side
+every-field passes h (field.Border side) = at-side (λ x. T (passes (field.Border x))) (every-later passes 10 reading-order h) side
+every-field passes h (field.Size axis) = at-axis (λ x. T (passes (field.Size x))) (every-later passes 14 reading-order h) axis
+every-field passes h (field.MinSize axis) = at-axis (λ x. T (passes (field.MinSize x))) (every-later passes 16 reading-order h) axis
+every-field passes h (field.MaxSize axis) = at-axis (λ x. T (passes (field.MaxSize x))) (every-later passes 18 reading-order h) axis
+every-field passes h (field.Margin side) = at-side (λ x. T (passes (field.Margin x))) (every-later passes 20 reading-order h) side
 
 pub answered : (s : Style) (r : Option StyleField) → r ≡ by-groups s → record { value : r ≡ first-out-of-range s; law : Names-first s r }
 answered s r e =
@@ -93,7 +88,7 @@ answered s r e =
       value = v;
       law = record {
         none-is-out = λ n f. every-field (field-in-range s) (none-fails (field-in-range s) reading-order (sym v ∙ n)) f;
-        all-are-in = λ h. v ∙ all-pass (field-in-range s) reading-order (every-read (field-in-range s) reading-order h);
+        all-are-in = λ h. v ∙ all-pass (field-in-range s) reading-order (every (field-in-range s) reading-order h);
         named-is-first = λ f n. named-first (field-in-range s) reading-order f (sym v ∙ n);
       };
     }

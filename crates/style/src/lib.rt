@@ -4,3 +4,5 @@ pub mod length;
 pub mod modes;
 pub mod range;
 pub mod style;
+#[cfg(test)]
+mod tests;
