@@ -122,7 +122,7 @@ impl AlignItems {
 
     // Equal to `AlignItems::STRETCH`: an overflow position makes it another alignment.
     pub fn is_stretch(self) -> bool
-        ensures value { λ r. ⌜ r ≡ default-stretch self ⌝ }
+        ensures { λ r. ⌜ r ≡ default-stretch self ⌝ }
     {
         matches!(
             self,
