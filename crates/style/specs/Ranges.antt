@@ -13,11 +13,11 @@ use Rattle.geometry.specs.declared.Rect.{Rect}
 use Rattle.geometry.specs.declared.Size.{Size}
 use Rattle.style.specs.FirstFailing.{first-failing, Fails-first}
 use Rattle.style.specs.declared.length.LengthPercentage.{LengthPercentage}
-use Rattle.style.specs.declared.length.LengthPercentage.the-variants as padding
+use Rattle.style.specs.declared.length.LengthPercentage.the-variants as lp
 use Rattle.style.specs.declared.length.LengthPercentageAuto.{LengthPercentageAuto}
-use Rattle.style.specs.declared.length.LengthPercentageAuto.the-variants as margin
+use Rattle.style.specs.declared.length.LengthPercentageAuto.the-variants as lpa
 use Rattle.style.specs.declared.length.Dimension.{Dimension}
-use Rattle.style.specs.declared.length.Dimension.the-variants as size
+use Rattle.style.specs.declared.length.Dimension.the-variants as dim
 use Rattle.style.specs.declared.style.Style.{Style}
 use Rattle.style.specs.declared.range.Side.{Side}
 use Rattle.style.specs.declared.range.Side.the-variants.{Left, Right, Top, Bottom}
@@ -35,35 +35,39 @@ least-ratio = ofBits binary32 0x3a80_0000
 abbrev pub fraction-in-range : Float → Bool
 fraction-in-range x = le x most-fraction && le (neg most-fraction) x
 
--- from 1 / 1,024 to 1,024, if there is one
-abbrev pub ratio-in-range : Option Float → Bool
-ratio-in-range None = true
-ratio-in-range (Some x) = le least-ratio x && le x most-fraction
+-- from 1 / 1,024 to 1,024
+abbrev pub ratio-in-range : Float → Bool
+ratio-in-range x = le least-ratio x && le x most-fraction
 
-abbrev pub padding-in-range : LengthPercentage → Bool
-padding-in-range (padding.Px x) = in-limits x
-padding-in-range (padding.Percent x) = fraction-in-range x
-padding-in-range (padding.Calc handle) = true
+-- what is not there is in range
+abbrev pub if-any : {X : Type 0} → (X → Bool) → Option X → Bool
+if-any in-range None = true
+if-any in-range (Some x) = in-range x
 
-abbrev pub margin-in-range : LengthPercentageAuto → Bool
-margin-in-range margin.Auto = true
-margin-in-range (margin.Px x) = in-limits x
-margin-in-range (margin.Percent x) = fraction-in-range x
-margin-in-range (margin.Calc handle) = true
+abbrev pub length-percentage-in-range : LengthPercentage → Bool
+length-percentage-in-range (lp.Px x) = in-limits x
+length-percentage-in-range (lp.Percent x) = fraction-in-range x
+length-percentage-in-range (lp.Calc handle) = true
+
+abbrev pub length-percentage-auto-in-range : LengthPercentageAuto → Bool
+length-percentage-auto-in-range lpa.Auto = true
+length-percentage-auto-in-range (lpa.Px x) = in-limits x
+length-percentage-auto-in-range (lpa.Percent x) = fraction-in-range x
+length-percentage-auto-in-range (lpa.Calc handle) = true
 
 abbrev pub dimension-in-range : Dimension → Bool
-dimension-in-range size.Auto = true
-dimension-in-range size.Content = true
-dimension-in-range (size.Px x) = in-limits x
-dimension-in-range (size.Percent x) = fraction-in-range x
-dimension-in-range (size.Calc handle) = true
-dimension-in-range size.MinContent = true
-dimension-in-range size.MaxContent = true
-dimension-in-range size.Stretch = true
-dimension-in-range size.FitContent = true
-dimension-in-range (size.FitContentPx x) = in-limits x
-dimension-in-range (size.FitContentPercent x) = fraction-in-range x
-dimension-in-range (size.FitContentCalc handle) = true
+dimension-in-range dim.Auto = true
+dimension-in-range dim.Content = true
+dimension-in-range (dim.Px x) = in-limits x
+dimension-in-range (dim.Percent x) = fraction-in-range x
+dimension-in-range (dim.Calc handle) = true
+dimension-in-range dim.MinContent = true
+dimension-in-range dim.MaxContent = true
+dimension-in-range dim.Stretch = true
+dimension-in-range dim.FitContent = true
+dimension-in-range (dim.FitContentPx x) = in-limits x
+dimension-in-range (dim.FitContentPercent x) = fraction-in-range x
+dimension-in-range (dim.FitContentCalc handle) = true
 
 abbrev pub sides : List Side
 sides = Left ∷ Right ∷ Top ∷ Bottom ∷ []
@@ -83,14 +87,14 @@ extent-of s Vertical = s .height
 
 abbrev pub field-in-range : Style → StyleField → Bool
 field-in-range s field.ScrollbarWidth = in-limits (s .«scrollbar_width»)
-field-in-range s field.AspectRatio = ratio-in-range (s .«aspect_ratio»)
-field-in-range s (field.Inset side) = margin-in-range (side-of (s .inset) side)
-field-in-range s (field.Padding side) = padding-in-range (side-of (s .padding) side)
-field-in-range s (field.Border side) = padding-in-range (side-of (s .border) side)
+field-in-range s field.AspectRatio = if-any ratio-in-range (s .«aspect_ratio»)
+field-in-range s (field.Inset side) = length-percentage-auto-in-range (side-of (s .inset) side)
+field-in-range s (field.Padding side) = length-percentage-in-range (side-of (s .padding) side)
+field-in-range s (field.Border side) = length-percentage-in-range (side-of (s .border) side)
 field-in-range s (field.Size axis) = dimension-in-range (extent-of (s .size) axis)
 field-in-range s (field.MinSize axis) = dimension-in-range (extent-of (s .«min_size») axis)
 field-in-range s (field.MaxSize axis) = dimension-in-range (extent-of (s .«max_size») axis)
-field-in-range s (field.Margin side) = margin-in-range (side-of (s .margin) side)
+field-in-range s (field.Margin side) = length-percentage-auto-in-range (side-of (s .margin) side)
 
 -- the order in which placing an item reads them
 abbrev pub reading-order : List StyleField
@@ -103,7 +107,7 @@ reading-order =
     ++ map field.MaxSize axes
     ++ map field.Margin sides
 
-abbrev pub first-out-of-range : Style → Option StyleField
+unfoldable pub first-out-of-range : Style → Option StyleField
 first-out-of-range s = first-failing (field-in-range s) reading-order
 
 -- what the answer says: none, exactly if every number of the style is in its range; one, if it is out of its range and all that are read before it are in theirs

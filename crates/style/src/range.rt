@@ -8,7 +8,7 @@ use geometry::Rect;
 use geometry::Size;
 ghost use mathlib.Core.Path.{_≡_};
 ghost use mathlib.Core.Bool.{Bool};
-ghost use Rattle.style.specs.Ranges.{fraction-in-range, ratio-in-range, padding-in-range, margin-in-range, dimension-in-range};
+ghost use Rattle.style.specs.Ranges.{fraction-in-range, ratio-in-range, if-any, length-percentage-in-range, length-percentage-auto-in-range, dimension-in-range};
 ghost use Rattle.style.specs.Ranges.{side-of, sides, extent-of, axes, first-out-of-range, Names-first};
 ghost use Rattle.style.specs.FirstFailing.{first-failing};
 
@@ -44,7 +44,7 @@ pub fn percent_in_range(fraction: f32) -> bool
 
 // From 1/1,024 to 1,024. No ratio is no number.
 pub fn aspect_ratio_in_range(ratio: Option<f32>) -> bool
-    ensures { λ r. ⌜ r ≡ ratio-in-range ratio ⌝ }
+    ensures { λ r. ⌜ r ≡ if-any ratio-in-range ratio ⌝ }
 {
     match ratio {
         Some(ratio) => 0.0009765625 <= ratio && ratio <= 1024.0,
@@ -61,7 +61,7 @@ pub trait InRange {
 }
 
 pub impl InRange for LengthPercentage as LengthPercentageInRange {
-    ghost allowed = { padding-in-range };
+    ghost allowed = { length-percentage-in-range };
 
     fn in_range(&self) -> bool {
         match *self {
@@ -73,7 +73,7 @@ pub impl InRange for LengthPercentage as LengthPercentageInRange {
 }
 
 pub impl InRange for LengthPercentageAuto as LengthPercentageAutoInRange {
-    ghost allowed = { margin-in-range };
+    ghost allowed = { length-percentage-auto-in-range };
 
     fn in_range(&self) -> bool {
         match *self {
