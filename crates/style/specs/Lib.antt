@@ -1,3 +1,5 @@
 pub mod Alignment
+pub mod FirstFailing
 pub mod Lengths
 pub mod Modes
+pub mod Ranges

@@ -113,9 +113,16 @@ impl AlignItems {
         }
     }
 
+    // The same keyword, with the same overflow position.
+    pub fn is_same(self, other: AlignItems) -> bool
+        ensures { λ r. ⌜ (T r → self ≡ other) × (self ≡ other → T r) ⌝ }
+    {
+        self.keyword as u8 == other.keyword as u8 && self.safety as u8 == other.safety as u8
+    }
+
     // Equal to `AlignItems::STRETCH`: an overflow position makes it another alignment.
     pub fn is_stretch(self) -> bool
-        ensures value { λ r. ⌜ r ≡ default-stretch self ⌝ }
+        ensures { λ r. ⌜ r ≡ default-stretch self ⌝ }
     {
         matches!(
             self,
@@ -205,6 +212,12 @@ impl AlignContent {
     pub fn is_safe(self) -> bool
         ensures { λ r. ⌜ r ≡ safe (self .safety) ⌝ }
     {
-        matches!(self.safety, AlignmentSafety::Safe)
+        matches!(
+            self,
+            AlignContent {
+                safety: AlignmentSafety::Safe,
+                ..
+            }
+        )
     }
 }

@@ -2,4 +2,7 @@
 pub mod alignment;
 pub mod length;
 pub mod modes;
+pub mod range;
 pub mod style;
+#[cfg(test)]
+mod tests;
