@@ -20,7 +20,11 @@ impl Decimal {
         }
         Some(Decimal {
             value: self.value * 10 + u32::from(digit),
-            scale: if self.point { self.scale * 10 } else { self.scale },
+            scale: if self.point {
+                self.scale * 10
+            } else {
+                self.scale
+            },
             point: self.point,
             some: true,
         })
@@ -32,7 +36,12 @@ impl Decimal {
         if self.point || !self.some {
             return None;
         }
-        Some(Decimal { value: self.value, scale: self.scale, point: true, some: false })
+        Some(Decimal {
+            value: self.value,
+            scale: self.scale,
+            point: true,
+            some: false,
+        })
     }
 
     fn after(self, byte: u8) -> Option<Decimal>
@@ -51,7 +60,10 @@ impl Decimal {
         if !self.some {
             return None;
         }
-        Some(std::num::nearest_u64_to_f32(u64::from(self.value)) / std::num::nearest_u64_to_f32(u64::from(self.scale)))
+        Some(
+            std::num::nearest_u64_to_f32(u64::from(self.value))
+                / std::num::nearest_u64_to_f32(u64::from(self.scale)),
+        )
     }
 }
 
@@ -59,7 +71,12 @@ impl Decimal {
 pub fn read_decimal(word: &str) -> Option<f32>
     ensures { λ r. ⌜ r ≡ decimal (now (word .entry)) ⌝ }
 {
-    let mut read = Decimal { value: 0, scale: 1, point: false, some: false };
+    let mut read = Decimal {
+        value: 0,
+        scale: 1,
+        point: false,
+        some: false,
+    };
     for byte in word.as_bytes() {
         let Some(next) = read.after(*byte) else {
             return None;

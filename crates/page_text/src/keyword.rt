@@ -1,14 +1,104 @@
-// The words of CSS that a page description uses.
+// The words of CSS that a page description uses, both ways.
+use style::alignment::AlignContentKeyword;
+use style::alignment::AlignmentSafety;
 use style::alignment::Direction;
 ghost use mathlib.Core.Path.{_≡_};
-ghost use Rattle.page_text.specs.Keywords.{direction-named};
+ghost use Rattle.std.specs.declared.option.Option.the-variants.{Some};
+ghost use Rattle.page_text.specs.Keywords.{meaning-of, properties, directions, overflow-positions, content-keywords, positional};
+
+// A property of the container.
+#[derive(Clone, Copy)]
+pub enum Property {
+    Width,
+    Height,
+    Padding,
+    Border,
+    Direction,
+    JustifyContent,
+    AlignContent,
+}
+
+pub fn property_named(word: &str) -> Option<Property>
+    ensures { λ r. ⌜ r ≡ meaning-of (now (word .entry)) properties ⌝ }
+{
+    match word {
+        "width" => Some(Property::Width),
+        "height" => Some(Property::Height),
+        "padding" => Some(Property::Padding),
+        "border" => Some(Property::Border),
+        "direction" => Some(Property::Direction),
+        "justify-content" => Some(Property::JustifyContent),
+        "align-content" => Some(Property::AlignContent),
+        _ => None,
+    }
+}
 
 pub fn direction_named(word: &str) -> Option<Direction>
-    ensures { λ r. ⌜ r ≡ direction-named (now (word .entry)) ⌝ }
+    ensures { λ r. ⌜ r ≡ meaning-of (now (word .entry)) directions ⌝ }
 {
     match word {
         "ltr" => Some(Direction::Ltr),
         "rtl" => Some(Direction::Rtl),
         _ => None,
     }
+}
+
+pub fn overflow_position_named(word: &str) -> Option<AlignmentSafety>
+    ensures { λ r. ⌜ r ≡ meaning-of (now (word .entry)) overflow-positions ⌝ }
+{
+    match word {
+        "safe" => Some(AlignmentSafety::Safe),
+        "unsafe" => Some(AlignmentSafety::Unsafe),
+        _ => None,
+    }
+}
+
+pub fn content_keyword_named(word: &str) -> Option<AlignContentKeyword>
+    ensures { λ r. ⌜ r ≡ meaning-of (now (word .entry)) content-keywords ⌝ }
+{
+    match word {
+        "normal" => Some(AlignContentKeyword::Normal),
+        "start" => Some(AlignContentKeyword::Start),
+        "end" => Some(AlignContentKeyword::End),
+        "flex-start" => Some(AlignContentKeyword::FlexStart),
+        "flex-end" => Some(AlignContentKeyword::FlexEnd),
+        "center" => Some(AlignContentKeyword::Center),
+        "stretch" => Some(AlignContentKeyword::Stretch),
+        "space-between" => Some(AlignContentKeyword::SpaceBetween),
+        "space-evenly" => Some(AlignContentKeyword::SpaceEvenly),
+        "space-around" => Some(AlignContentKeyword::SpaceAround),
+        _ => None,
+    }
+}
+
+// The name that reads back as the keyword.
+pub fn content_keyword_name(keyword: AlignContentKeyword) -> &'static str
+    ensures { λ r. ⌜ meaning-of (now r) content-keywords ≡ Some keyword ⌝ }
+{
+    match keyword {
+        AlignContentKeyword::Normal => "normal",
+        AlignContentKeyword::Start => "start",
+        AlignContentKeyword::End => "end",
+        AlignContentKeyword::FlexStart => "flex-start",
+        AlignContentKeyword::FlexEnd => "flex-end",
+        AlignContentKeyword::Center => "center",
+        AlignContentKeyword::Stretch => "stretch",
+        AlignContentKeyword::SpaceBetween => "space-between",
+        AlignContentKeyword::SpaceEvenly => "space-evenly",
+        AlignContentKeyword::SpaceAround => "space-around",
+    }
+}
+
+// Whether an overflow position may stand before the keyword.
+pub fn is_positional(keyword: AlignContentKeyword) -> bool
+    ensures { λ r. ⌜ r ≡ positional keyword ⌝ }
+{
+    matches!(
+        keyword,
+        AlignContentKeyword::Start
+            | AlignContentKeyword::End
+            | AlignContentKeyword::FlexStart
+            | AlignContentKeyword::FlexEnd
+            | AlignContentKeyword::Center
+    )
 }

@@ -4,5 +4,4 @@ ghost use Rattle.worked.specs.TrackPages.{Pages-hold};
 // Every worked row of tracks has the offsets that it is said to have.
 pub fn pages_hold()
     ensures { λ _. ⌜ Pages-hold ⌝ }
-{
-}
+{}
