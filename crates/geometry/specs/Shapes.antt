@@ -33,6 +33,10 @@ sides Vertical r = record { start = r .top; end = r .bottom }
 abbrev pub zip-size : {A B C : Type 0} → (A → B → C) → Size A → Size B → Size C
 zip-size f s t = record { width = f (s .width) (t .width); height = f (s .height) (t .height) }
 
+-- f of the three widths, and of the three heights
+abbrev pub zip-three-sizes : {A B C D : Type 0} → (A → B → C → D) → Size A → Size B → Size C → Size D
+zip-three-sizes f s t u = record { width = f (s .width) (t .width) (u .width); height = f (s .height) (t .height) (u .height) }
+
 -- f of the two rectangles, side by side
 abbrev pub zip-rect : {A B C : Type 0} → (A → B → C) → Rect A → Rect B → Rect C
 zip-rect f r t = record { left = f (r .left) (t .left); right = f (r .right) (t .right); top = f (r .top) (t .top); bottom = f (r .bottom) (t .bottom) }

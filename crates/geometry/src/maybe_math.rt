@@ -3,7 +3,7 @@ use crate::Size;
 ghost use mathlib.Core.Path.{_≡_};
 ghost use Rattle.std.specs.Options.{valueOr};
 ghost use Rattle.std.specs.declared.option.Option.the-variants.{Some};
-ghost use Rattle.geometry.specs.Shapes.{zip-size};
+ghost use Rattle.geometry.specs.Shapes.{zip-size, zip-three-sizes};
 ghost use Rattle.geometry.specs.MaybeMath.{maybe-min, maybe-max, maybe-clamp, maybe-add, maybe-sub};
 
 // Where `self` is missing, so is the result; where the other is missing, `self` stays.
@@ -177,7 +177,7 @@ pub impl<In, Out, T: MaybeMath<In, Out>> MaybeMath<Size<In>, Size<Out>> for Size
 
     ghost maximum = { zip-size (T·MaybeMath .maximum) };
 
-    ghost clamped = { λ s lower upper. record { width = T·MaybeMath .clamped (s .width) (lower .width) (upper .width); height = T·MaybeMath .clamped (s .height) (lower .height) (upper .height) } };
+    ghost clamped = { zip-three-sizes (T·MaybeMath .clamped) };
 
     ghost sum = { zip-size (T·MaybeMath .sum) };
 

@@ -11,7 +11,7 @@ ghost use Rattle.geometry.specs.declared.AbsoluteAxis.the-variants.{Horizontal
 ghost use Rattle.geometry.specs.Shapes.{sides, zip-rect};
 ghost use Rattle.geometry.specs.Holds.{union-of, Smallest-around};
 
-impl<T: Add<T>> Line<T> {
+impl<T: Add<T> + Copy> Line<T> {
     pub fn sum(self) -> T::Output
         requires { ⌜ T·Add .can (self .start) (self .end) ⌝ }
         ensures { λ r. ⌜ T·Add .adds (self .start) (self .end) r ⌝ }

@@ -134,12 +134,12 @@ impl Size<Option<f32>> {
         match aspect_ratio {
             Some(ratio) => match (self.width, self.height) {
                 (Some(width), None) => Size {
-                    width: Some(width),
+                    width: self.width,
                     height: Some(width / ratio),
                 },
                 (None, Some(height)) => Size {
                     width: Some(height * ratio),
-                    height: Some(height),
+                    height: self.height,
                 },
                 _ => self,
             },
