@@ -28,20 +28,20 @@ pub struct Question {
     pub axis: RequestedAxis,
 }
 
-fn same_mode(a: SizingMode, b: SizingMode) -> bool
-    ensures test { λ r. ⌜ r ≡ same-mode a b ⌝ }
-    ensures same { λ r. ⌜ (r ≡ true → a ≡ b) ⌝ }
-    ensures back { λ r. ⌜ (a ≡ b → r ≡ true) ⌝ }
+fn same_mode(mode: SizingMode, other: SizingMode) -> bool
+    ensures test { λ r. ⌜ r ≡ same-mode mode other ⌝ }
+    ensures same { λ r. ⌜ (r ≡ true → mode ≡ other) ⌝ }
+    ensures back { λ r. ⌜ (mode ≡ other → r ≡ true) ⌝ }
 {
-    a as u8 == b as u8
+    mode as u8 == other as u8
 }
 
-fn same_axis(a: RequestedAxis, b: RequestedAxis) -> bool
-    ensures test { λ r. ⌜ r ≡ same-axis a b ⌝ }
-    ensures same { λ r. ⌜ (r ≡ true → a ≡ b) ⌝ }
-    ensures back { λ r. ⌜ (a ≡ b → r ≡ true) ⌝ }
+fn same_axis(axis: RequestedAxis, other: RequestedAxis) -> bool
+    ensures test { λ r. ⌜ r ≡ same-axis axis other ⌝ }
+    ensures same { λ r. ⌜ (r ≡ true → axis ≡ other) ⌝ }
+    ensures back { λ r. ⌜ (axis ≡ other → r ≡ true) ⌝ }
 {
-    a as u8 == b as u8
+    axis as u8 == other as u8
 }
 
 // Equal in every bit.
