@@ -1,5 +1,7 @@
 // What is said of an axis: how its free space is shared, and where each track stands.
+use crate::axis_alignment::AxisAlignment;
 use crate::keyword::content_keyword_name;
+use geometry::AbsoluteAxis;
 use std::fmt;
 use style::alignment::AlignContent;
 use style::alignment::AlignmentSafety;
@@ -9,12 +11,23 @@ use tracks::track_alignment::TrackAlignment;
 // One axis after alignment.
 #[derive(Clone, Copy)]
 pub struct AxisReport<'a> {
-    pub name: &'a str,
-    pub property: &'a str,
-    pub content_size: f32,
-    pub asked: AlignContent,
-    pub alignment: TrackAlignment,
+    pub axis: AbsoluteAxis,
+    pub alignment: AxisAlignment,
     pub tracks: &'a [GridTrack],
+}
+
+fn axis_name(axis: AbsoluteAxis) -> &'static str {
+    match axis {
+        AbsoluteAxis::Horizontal => "columns",
+        AbsoluteAxis::Vertical => "rows",
+    }
+}
+
+fn property_name(axis: AbsoluteAxis) -> &'static str {
+    match axis {
+        AbsoluteAxis::Horizontal => "justify-content",
+        AbsoluteAxis::Vertical => "align-content",
+    }
 }
 
 fn overflow_position(safety: AlignmentSafety) -> &'static str {
@@ -54,7 +67,7 @@ impl fmt::Display for TrackLine as TrackLineDisplay {
     }
 }
 
-// How the free space is shared, in three lines.
+// The alignment asked for and the one left, with the shares.
 #[derive(Clone, Copy)]
 struct ShareLines {
     asked: AlignContent,
@@ -75,15 +88,16 @@ impl fmt::Display for ShareLines as ShareLinesDisplay {
 
 pub impl<'a> fmt::Display for AxisReport<'a> as AxisReportDisplay {
     fn fmt<W: fmt::Write>(&self, f: &mut fmt::Formatter<W>) -> fmt::Result {
-        let name = self.name;
-        let content = self.content_size;
-        let used = self.alignment.used_size;
-        let free = self.alignment.free_space;
-        let live = self.alignment.num_tracks;
-        let property = self.property;
+        let name = axis_name(self.axis);
+        let property = property_name(self.axis);
+        let content = self.alignment.content_size;
+        let alignment = self.alignment.alignment;
+        let used = alignment.used_size;
+        let free = alignment.free_space;
+        let live = alignment.num_tracks;
         let shares = ShareLines {
-            asked: self.asked,
-            alignment: self.alignment,
+            asked: self.alignment.asked,
+            alignment,
         };
         writeln!(
             f,

@@ -1,4 +1,5 @@
 // The description of a page as text: how it is read, and the report on how its tracks are aligned.
+pub mod axis_alignment;
 pub mod axis_report;
 pub mod container_text;
 pub mod decimal;
