@@ -4,5 +4,3 @@ pub mod length;
 pub mod modes;
 pub mod range;
 pub mod style;
-#[cfg(test)]
-mod tests;

@@ -1,16 +1,17 @@
-use crate::alignment::AlignItems;
-use crate::alignment::AlignItemsKeyword;
-use crate::alignment::AlignmentSafety;
-use crate::alignment::Direction;
-use crate::length::Dimension;
-use crate::length::LengthPercentage;
-use crate::length::LengthPercentageAuto;
-use crate::range::Side;
-use crate::range::StyleField;
-use crate::range::first_out_of_range;
-use crate::style::Style;
+// Alignments by direction, and the first value of a style that is out of range.
 use geometry::AbsoluteAxis;
 use std::test::*;
+use style::alignment::AlignItems;
+use style::alignment::AlignItemsKeyword;
+use style::alignment::AlignmentSafety;
+use style::alignment::Direction;
+use style::length::Dimension;
+use style::length::LengthPercentage;
+use style::length::LengthPercentageAuto;
+use style::range::Side;
+use style::range::StyleField;
+use style::range::first_out_of_range;
+use style::style::Style;
 
 // An item that runs right to left in a container that runs left to right.
 #[test]

@@ -1,10 +1,10 @@
 // Limits and sums of numbers that may be missing.
-use crate::Size;
+use geometry::Size;
 ghost use mathlib.Core.Path.{_≡_};
 ghost use Rattle.std.specs.Options.{valueOr};
 ghost use Rattle.std.specs.declared.option.Option.the-variants.{Some};
 ghost use Rattle.geometry.specs.Shapes.{zip-size, zip-three-sizes};
-ghost use Rattle.geometry.specs.MaybeMath.{maybe-min, maybe-max, maybe-clamp, maybe-add, maybe-sub};
+ghost use Rattle.maybe_math.specs.MaybeMath.{maybe-min, maybe-max, maybe-clamp, maybe-add, maybe-sub};
 
 // Where `self` is missing, so is the result; where the other is missing, `self` stays.
 pub trait MaybeMath<In, Out>: Sized {
