@@ -121,10 +121,8 @@ impl Rect<f32> {
         }
     }
 
-    // The smallest rectangle that holds both.
-    pub fn union(self, other: Rect<f32>) -> Rect<f32>
-        ensures edges { λ r. ⌜ r ≡ union-of self other ⌝ }
-        ensures law { λ r. ⌜ Smallest-around self other r ⌝ }
+    fn outer_edges(self, other: Rect<f32>) -> Rect<f32>
+        ensures { λ r. ⌜ r ≡ union-of self other ⌝ }
     {
         Rect {
             left: self.left.min(other.left),
@@ -132,5 +130,12 @@ impl Rect<f32> {
             top: self.top.min(other.top),
             bottom: self.bottom.max(other.bottom),
         }
+    }
+    // The smallest rectangle that holds both.
+    pub fn union(self, other: Rect<f32>) -> Rect<f32>
+        ensures edges { λ r. ⌜ r ≡ union-of self other ⌝ }
+        ensures law { λ r. ⌜ Smallest-around self other r ⌝ }
+    {
+        self.outer_edges(other)
     }
 }

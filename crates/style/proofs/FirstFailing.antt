@@ -8,12 +8,7 @@ use lib.Dec.{T}
 use lib.ListN.{drop}
 use Rattle.std.specs.declared.option.Option.{Option}
 use Rattle.std.specs.declared.option.Option.the-variants.{None, Some}
-use Rattle.style.specs.FirstFailing.{first-failing, Every, Fails-first}
-
--- the answer of a group, in the words of the whole, or else that of the rest
-abbrev pub or-rest : {X Y : Type 0} → (X → Y) → Option X → Option Y → Option Y
-or-rest f None rest = rest
-or-rest f (Some x) rest = Some (f x)
+use Rattle.style.specs.FirstFailing.{first-failing, or-rest, Every, Fails-first}
 
 pub group : {X Y : Type 0} (passes : Y → Bool) (f : X → Y) (xs : List X) (ys : List Y) (rest : Option Y) → first-failing passes ys ≡ rest
     → first-failing passes (map f xs ++ ys) ≡ or-rest f (first-failing (λ x. passes (f x)) xs) rest

@@ -9,26 +9,14 @@ use Rattle.number.specs.Limits.{in-limits}
 use Rattle.geometry.specs.declared.AbsoluteAxis.{AbsoluteAxis}
 use Rattle.geometry.specs.declared.AbsoluteAxis.the-variants.{Horizontal, Vertical}
 use Rattle.style.specs.FirstFailing.{first-failing, Every}
-use Rattle.style.specs.Ranges.{ratio-in-range, if-any, length-percentage-in-range, length-percentage-auto-in-range, dimension-in-range, sides, side-of, axes, extent-of}
-use Rattle.style.specs.Ranges.{field-in-range, reading-order, first-out-of-range, Names-first}
+use Rattle.style.specs.Ranges.{ratio-in-range, if-any, length-percentage-in-range, length-percentage-auto-in-range, dimension-in-range, sides, side-of, axes}
+use Rattle.style.specs.Ranges.{field-in-range, reading-order, first-out-of-range, first-by-groups, Names-first}
 use Rattle.style.specs.declared.style.Style.{Style}
 use Rattle.style.specs.declared.range.Side.{Side}
 use Rattle.style.specs.declared.range.Side.the-variants.{Left, Right, Top, Bottom}
 use Rattle.style.specs.declared.range.StyleField.{StyleField}
 use Rattle.style.specs.declared.range.StyleField.the-variants as field
-use Rattle.style.proofs.FirstFailing.{or-rest, group, every, every-later, none-fails, all-pass, named-first}
-
-abbrev pub by-groups : Style → Option StyleField
-by-groups s =
-    cond (in-limits (s .«scrollbar_width»)) (cond (if-any ratio-in-range (s .«aspect_ratio»))
-    (or-rest field.Inset (first-failing (λ side. length-percentage-auto-in-range (side-of (s .inset) side)) sides)
-    (or-rest field.Padding (first-failing (λ side. length-percentage-in-range (side-of (s .padding) side)) sides)
-    (or-rest field.Border (first-failing (λ side. length-percentage-in-range (side-of (s .border) side)) sides)
-    (or-rest field.Size (first-failing (λ axis. dimension-in-range (extent-of (s .size) axis)) axes)
-    (or-rest field.MinSize (first-failing (λ axis. dimension-in-range (extent-of (s .«min_size») axis)) axes)
-    (or-rest field.MaxSize (first-failing (λ axis. dimension-in-range (extent-of (s .«max_size») axis)) axes)
-    (or-rest field.Margin (first-failing (λ side. length-percentage-auto-in-range (side-of (s .margin) side)) sides) None)))))))
-    (Some field.AspectRatio)) (Some field.ScrollbarWidth)
+use Rattle.style.proofs.FirstFailing.{group, every, every-later, none-fails, all-pass, named-first}
 
 -- the order of reading from a group on
 abbrev from-max-size : List StyleField
@@ -46,7 +34,7 @@ from-border = map field.Border sides ++ from-size
 abbrev from-padding : List StyleField
 from-padding = map field.Padding sides ++ from-border
 
-grouped : (s : Style) → first-out-of-range s ≡ by-groups s
+grouped : (s : Style) → first-out-of-range s ≡ first-by-groups s
 unfolding first-out-of-range
 grouped s =
     let p : StyleField → Bool = field-in-range s in
@@ -82,7 +70,7 @@ every-field passes h (field.MinSize axis) = at-axis (λ x. T (passes (field.MinS
 every-field passes h (field.MaxSize axis) = at-axis (λ x. T (passes (field.MaxSize x))) (every-later passes 18 reading-order h) axis
 every-field passes h (field.Margin side) = at-side (λ x. T (passes (field.Margin x))) (every-later passes 20 reading-order h) side
 
-pub answered : (s : Style) (r : Option StyleField) → r ≡ by-groups s → record { value : r ≡ first-out-of-range s; law : Names-first s r }
+pub answered : (s : Style) (r : Option StyleField) → r ≡ first-by-groups s → record { value : r ≡ first-out-of-range s; law : Names-first s r }
 unfolding first-out-of-range
 answered s r e =
     let v : r ≡ first-out-of-range s = e ∙ sym (grouped s) in

@@ -10,6 +10,11 @@ abbrev pub first-failing : {X : Type 0} → (X → Bool) → List X → Option X
 first-failing passes [] = None
 first-failing passes (x ∷ xs) = cond (passes x) (first-failing passes xs) (Some x)
 
+-- the answer of a part, if it has one, in the words of the whole, else that of the rest
+abbrev pub or-rest : {X Y : Type 0} → (X → Y) → Option X → Option Y → Option Y
+or-rest name None rest = rest
+or-rest name (Some x) rest = Some (name x)
+
 abbrev pub Every : {X : Type 0} → (X → Bool) → List X → Type 0
 Every passes [] = Unit {0}
 Every passes (x ∷ xs) = T (passes x) × Every passes xs

@@ -1,17 +1,17 @@
 -- The range of each number of a style, and the first value of a style that is out of its own.
 use mathlib.Core.Path.{_≡_}
-use mathlib.Core.Bool.{Bool, true, _&&_}
+use mathlib.Core.Bool.{Bool, true, cond, _&&_}
 use mathlib.Core.List.{List, [], _∷_, _++_, map}
 use lib.Dec.{T}
 use lib.Ieee.{Float, binary32, le, neg, ofBits}
 use Rattle.std.specs.declared.option.Option.{Option}
 use Rattle.std.specs.declared.option.Option.the-variants.{None, Some}
 use Rattle.number.specs.Limits.{in-limits}
+use Rattle.geometry.specs.Shapes.{extent}
 use Rattle.geometry.specs.declared.AbsoluteAxis.{AbsoluteAxis}
 use Rattle.geometry.specs.declared.AbsoluteAxis.the-variants.{Horizontal, Vertical}
 use Rattle.geometry.specs.declared.Rect.{Rect}
-use Rattle.geometry.specs.declared.Size.{Size}
-use Rattle.style.specs.FirstFailing.{first-failing, Fails-first}
+use Rattle.style.specs.FirstFailing.{first-failing, or-rest, Fails-first}
 use Rattle.style.specs.declared.length.LengthPercentage.{LengthPercentage}
 use Rattle.style.specs.declared.length.LengthPercentage.the-variants as lp
 use Rattle.style.specs.declared.length.LengthPercentageAuto.{LengthPercentageAuto}
@@ -81,19 +81,15 @@ side-of r Bottom = r .bottom
 abbrev pub axes : List AbsoluteAxis
 axes = Horizontal ∷ Vertical ∷ []
 
-abbrev pub extent-of : {L : Type 0} → Size L → AbsoluteAxis → L
-extent-of s Horizontal = s .width
-extent-of s Vertical = s .height
-
 abbrev pub field-in-range : Style → StyleField → Bool
 field-in-range s field.ScrollbarWidth = in-limits (s .«scrollbar_width»)
 field-in-range s field.AspectRatio = if-any ratio-in-range (s .«aspect_ratio»)
 field-in-range s (field.Inset side) = length-percentage-auto-in-range (side-of (s .inset) side)
 field-in-range s (field.Padding side) = length-percentage-in-range (side-of (s .padding) side)
 field-in-range s (field.Border side) = length-percentage-in-range (side-of (s .border) side)
-field-in-range s (field.Size axis) = dimension-in-range (extent-of (s .size) axis)
-field-in-range s (field.MinSize axis) = dimension-in-range (extent-of (s .«min_size») axis)
-field-in-range s (field.MaxSize axis) = dimension-in-range (extent-of (s .«max_size») axis)
+field-in-range s (field.Size axis) = dimension-in-range (extent axis (s .size))
+field-in-range s (field.MinSize axis) = dimension-in-range (extent axis (s .«min_size»))
+field-in-range s (field.MaxSize axis) = dimension-in-range (extent axis (s .«max_size»))
 field-in-range s (field.Margin side) = length-percentage-auto-in-range (side-of (s .margin) side)
 
 -- the order in which placing an item reads them
@@ -109,6 +105,19 @@ reading-order =
 
 unfoldable pub first-out-of-range : Style → Option StyleField
 first-out-of-range s = first-failing (field-in-range s) reading-order
+
+-- the same, value by value and then group by group
+abbrev pub first-by-groups : Style → Option StyleField
+first-by-groups s =
+    cond (in-limits (s .«scrollbar_width»)) (cond (if-any ratio-in-range (s .«aspect_ratio»))
+    (or-rest field.Inset (first-failing (λ side. length-percentage-auto-in-range (side-of (s .inset) side)) sides)
+    (or-rest field.Padding (first-failing (λ side. length-percentage-in-range (side-of (s .padding) side)) sides)
+    (or-rest field.Border (first-failing (λ side. length-percentage-in-range (side-of (s .border) side)) sides)
+    (or-rest field.Size (first-failing (λ axis. dimension-in-range (extent axis (s .size))) axes)
+    (or-rest field.MinSize (first-failing (λ axis. dimension-in-range (extent axis (s .«min_size»))) axes)
+    (or-rest field.MaxSize (first-failing (λ axis. dimension-in-range (extent axis (s .«max_size»))) axes)
+    (or-rest field.Margin (first-failing (λ side. length-percentage-auto-in-range (side-of (s .margin) side)) sides) None)))))))
+    (Some field.AspectRatio)) (Some field.ScrollbarWidth)
 
 -- what the answer says: none, exactly if every number of the style is in its range; one, if it is out of its range and all that are read before it are in theirs
 pub record Names-first (s : Style) (r : Option StyleField) : Type 0 where

@@ -9,7 +9,8 @@ use geometry::Size;
 ghost use mathlib.Core.Path.{_≡_};
 ghost use mathlib.Core.Bool.{Bool};
 ghost use Rattle.style.specs.Ranges.{fraction-in-range, ratio-in-range, if-any, length-percentage-in-range, length-percentage-auto-in-range, dimension-in-range};
-ghost use Rattle.style.specs.Ranges.{side-of, sides, extent-of, axes, first-out-of-range, Names-first};
+ghost use Rattle.style.specs.Ranges.{side-of, sides, axes, first-out-of-range, first-by-groups, Names-first};
+ghost use Rattle.geometry.specs.Shapes.{extent};
 ghost use Rattle.style.specs.FirstFailing.{first-failing};
 
 // A side of a box.
@@ -117,7 +118,7 @@ fn first_side_out_of_range<L: InRange>(rect: &Rect<L>) -> Option<Side>
 
 // The first of width and height that is out of range.
 fn first_extent_out_of_range<L: InRange>(size: &Size<L>) -> Option<AbsoluteAxis>
-    ensures { λ r. ⌜ r ≡ first-failing (λ axis. L·InRange .allowed (extent-of (now (size .entry)) axis)) axes ⌝ }
+    ensures { λ r. ⌜ r ≡ first-failing (λ axis. L·InRange .allowed (extent axis (now (size .entry)))) axes ⌝ }
 {
     if !size.width.in_range() {
         return Some(AbsoluteAxis::Horizontal);
@@ -128,10 +129,8 @@ fn first_extent_out_of_range<L: InRange>(size: &Size<L>) -> Option<AbsoluteAxis>
     None
 }
 
-// The first value of the style, in the order in which placing an item reads them, whose number is out of range.
-pub fn first_out_of_range(style: &Style) -> Option<StyleField>
-    ensures value { λ r. ⌜ r ≡ first-out-of-range (now (style .entry)) ⌝ }
-    ensures law { λ r. ⌜ Names-first (now (style .entry)) r ⌝ }
+fn first_by_groups(style: &Style) -> Option<StyleField>
+    ensures { λ r. ⌜ r ≡ first-by-groups (now (style .entry)) ⌝ }
 {
     if !number::in_limits(style.scrollbar_width) {
         return Some(StyleField::ScrollbarWidth);
@@ -161,4 +160,12 @@ pub fn first_out_of_range(style: &Style) -> Option<StyleField>
         return Some(StyleField::Margin(side));
     }
     None
+}
+
+// The first value of the style, in the order in which placing an item reads them, whose number is out of range.
+pub fn first_out_of_range(style: &Style) -> Option<StyleField>
+    ensures value { λ r. ⌜ r ≡ first-out-of-range (now (style .entry)) ⌝ }
+    ensures law { λ r. ⌜ Names-first (now (style .entry)) r ⌝ }
+{
+    first_by_groups(style)
 }
