@@ -1,0 +1,129 @@
+// A layer that remembers measurements, so that the host below is not asked again.
+use crate::memory::Memory;
+use geometry::Size;
+use std::alloc::Global;
+use std::alloc::Refused;
+use style::style::Style;
+use tree::fault::HostFault;
+use tree::layout::Layout;
+use tree::layout::LayoutOutput;
+use tree::layout::OofCandidate;
+use tree::question::Question;
+use tree::traits::LayoutGridContainer;
+use tree::traits::LayoutPartialTree;
+ghost use mathlib.Core.Path.{_≡_};
+ghost use mathlib.Core.List.{[]};
+ghost use Rattle.std.specs.Results.{Cases};
+ghost use Rattle.std.specs.declared.option.Option.{Option as Maybe};
+ghost use Rattle.std.specs.declared.option.Option.the-variants.{None};
+ghost use Rattle.tree.specs.Meaning.{Counts, measures, lays-out, fetches, stores, with-stored, raise};
+ghost use Rattle.layers.specs.Remembering.{All-right};
+ghost use Rattle.layers.specs.Layers.{entries-of, Cached};
+
+// In order when the host below is, and each remembered answer is the one below.
+#[derive(Drop)]
+pub struct Cache<H> {
+    below: H,
+    memory: Memory,
+}
+
+impl<H> Cache<H> {
+    // A cache that remembers nothing yet; for want of memory, the host below comes back.
+    pub fn new(heap: Global, below: H) -> Result<Cache<H>, Refused<H>>
+        ensures { λ r. ⌜ Cases r (λ c. (c .below ≡ below) × (entries-of c ≡ [])) (λ e. e .value ≡ below) ⌝ }
+    {
+        match Memory::new(heap) {
+            Ok(memory) => Ok(Cache { below, memory }),
+            Err(_) => Err(Refused { value: below }),
+        }
+    }
+
+    pub fn below(&self) -> &H
+        ensures { λ r. ⌜ now r ≡ now (self .entry) .below ⌝ }
+    {
+        &self.below
+    }
+
+    pub fn into_inner(self) -> H
+        ensures { λ r. ⌜ r ≡ self .below ⌝ }
+    {
+        let Cache { below, memory: _ } = self;
+        below
+    }
+}
+
+pub impl<H: LayoutPartialTree> LayoutPartialTree for Cache<H> as CacheTree {
+    ghost meaning = { λ s. H·LayoutPartialTree .meaning (s .below) };
+
+    ghost ordered = { λ s. H·LayoutPartialTree .ordered (s .below) × All-right (H·LayoutPartialTree .meaning (s .below) .means) (entries-of s) };
+
+    ghost tallied = { λ _. None };
+
+    fn measure(&mut self, question: Question) -> Result<Size<f32>, HostFault>
+        requires { ⌜ H·LayoutPartialTree .ordered (now self .below) × All-right (H·LayoutPartialTree .meaning (now self .below) .means) (entries-of (now self)) ⌝ }
+        ensures answer { λ r. ⌜ r ≡ measures (H·LayoutPartialTree .meaning (now (self .entry) .below) .means) question ⌝ }
+        ensures order { λ _. ⌜ H·LayoutPartialTree .ordered (now (self .exit) .below) × All-right (H·LayoutPartialTree .meaning (now (self .exit) .below) .means) (entries-of (now (self .exit))) ⌝ }
+        ensures same { λ _. ⌜ H·LayoutPartialTree .meaning (now (self .exit) .below) ≡ H·LayoutPartialTree .meaning (now (self .entry) .below) ⌝ }
+        ensures counts { λ _. ⌜ _≡_ {A = Maybe Counts} None None ⌝ }
+        ensures cached { λ r. ⌜ Cached (H·LayoutPartialTree .tallied) (now (self .entry)) (now (self .exit)) question r ⌝ }
+    {
+        if let Some(size) = self.memory.recall(question) {
+            return Ok(size);
+        }
+        let answer = self.below.measure(question);
+        if let Ok(size) = answer {
+            self.memory.remember(question, size);
+        }
+        answer
+    }
+
+    fn perform_layout(&mut self, question: Question) -> Result<LayoutOutput, HostFault>
+        requires { ⌜ H·LayoutPartialTree .ordered (now self .below) × All-right (H·LayoutPartialTree .meaning (now self .below) .means) (entries-of (now self)) ⌝ }
+        ensures answer { λ r. ⌜ r ≡ lays-out (H·LayoutPartialTree .meaning (now (self .entry) .below) .means) question ⌝ }
+        ensures order { λ _. ⌜ H·LayoutPartialTree .ordered (now (self .exit) .below) × All-right (H·LayoutPartialTree .meaning (now (self .exit) .below) .means) (entries-of (now (self .exit))) ⌝ }
+        ensures same { λ _. ⌜ H·LayoutPartialTree .meaning (now (self .exit) .below) ≡ H·LayoutPartialTree .meaning (now (self .entry) .below) ⌝ }
+        ensures counts { λ _. ⌜ _≡_ {A = Maybe Counts} None None ⌝ }
+        ensures memory { λ _. ⌜ now (self .exit) .memory ≡ now (self .entry) .memory ⌝ }
+        ensures below { λ _. ⌜ H·LayoutPartialTree .tallied (now (self .exit) .below) ≡ raise 0 1 (H·LayoutPartialTree .tallied (now (self .entry) .below)) ⌝ }
+    {
+        self.below.perform_layout(question)
+    }
+
+    fn fetch_candidate(&mut self, question: Question, index: u32) -> Result<OofCandidate, HostFault>
+        requires { ⌜ H·LayoutPartialTree .ordered (now self .below) × All-right (H·LayoutPartialTree .meaning (now self .below) .means) (entries-of (now self)) ⌝ }
+        ensures answer { λ r. ⌜ r ≡ fetches (H·LayoutPartialTree .meaning (now (self .entry) .below) .means) question index ⌝ }
+        ensures order { λ _. ⌜ H·LayoutPartialTree .ordered (now (self .exit) .below) × All-right (H·LayoutPartialTree .meaning (now (self .exit) .below) .means) (entries-of (now (self .exit))) ⌝ }
+        ensures same { λ _. ⌜ H·LayoutPartialTree .meaning (now (self .exit) .below) ≡ H·LayoutPartialTree .meaning (now (self .entry) .below) ⌝ }
+        ensures counts { λ _. ⌜ _≡_ {A = Maybe Counts} None None ⌝ }
+        ensures memory { λ _. ⌜ now (self .exit) .memory ≡ now (self .entry) .memory ⌝ }
+        ensures below { λ _. ⌜ H·LayoutPartialTree .tallied (now (self .exit) .below) ≡ H·LayoutPartialTree .tallied (now (self .entry) .below) ⌝ }
+    {
+        self.below.fetch_candidate(question, index)
+    }
+
+    fn calc(&self, handle: u32, basis: f32) -> f32 {
+        self.below.calc(handle, basis)
+    }
+
+    fn store(&mut self, node: u64, layout: &Layout) -> Result<(), HostFault>
+        requires { ⌜ H·LayoutPartialTree .ordered (now self .below) × All-right (H·LayoutPartialTree .meaning (now self .below) .means) (entries-of (now self)) ⌝ }
+        ensures answer { λ r. ⌜ r ≡ stores (H·LayoutPartialTree .meaning (now (self .entry) .below) .means) node ⌝ }
+        ensures order { λ _. ⌜ H·LayoutPartialTree .ordered (now (self .exit) .below) × All-right (H·LayoutPartialTree .meaning (now (self .exit) .below) .means) (entries-of (now (self .exit))) ⌝ }
+        ensures change { λ _. ⌜ H·LayoutPartialTree .meaning (now (self .exit) .below) ≡ with-stored (H·LayoutPartialTree .meaning (now (self .entry) .below)) node (now (layout .entry)) ⌝ }
+        ensures counts { λ _. ⌜ _≡_ {A = Maybe Counts} None None ⌝ }
+        ensures memory { λ _. ⌜ now (self .exit) .memory ≡ now (self .entry) .memory ⌝ }
+        ensures below { λ _. ⌜ H·LayoutPartialTree .tallied (now (self .exit) .below) ≡ H·LayoutPartialTree .tallied (now (self .entry) .below) ⌝ }
+    {
+        self.below.store(node, layout)
+    }
+
+    fn read_stored(&self, node: u64) -> Result<Layout, HostFault> {
+        self.below.read_stored(node)
+    }
+}
+
+pub impl<H: LayoutGridContainer> LayoutGridContainer for Cache<H> as CacheGrid {
+    fn style(&self, node: u64) -> Result<Style, HostFault> {
+        self.below.style(node)
+    }
+}
