@@ -1,0 +1,4 @@
+pub mod Raises
+pub mod UsedLaws
+pub mod Few
+pub mod Finals

@@ -1,0 +1,4 @@
+pub mod Found
+pub mod UsedSizes
+pub mod LaidOut
+pub mod SizingLaws
