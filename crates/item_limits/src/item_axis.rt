@@ -66,7 +66,10 @@ impl ItemAxis {
     fn space(self) -> f32
         ensures { λ r. ⌜ r ≡ stretch-fit-size self ⌝ }
     {
-        let inner = self.area.maybe_sub(self.margin.start).maybe_sub(self.margin.end) - self.baseline_shim;
+        let inner = self.area
+            .maybe_sub(self.margin.start)
+            .maybe_sub(self.margin.end)
+            - self.baseline_shim;
         let left = if self.is_out_of_flow {
             inner.maybe_sub(self.inset.start).maybe_sub(self.inset.end)
         } else {
@@ -117,9 +120,8 @@ impl ItemAxis {
         match (self.alignment.keyword, self.alignment.safety) {
             (AlignItemsKeyword::Stretch, AlignmentSafety::Default) if !self.is_out_of_flow =>
                 SideSizing::Stretched(self.stretch_fit_side()),
-            (AlignItemsKeyword::Stretch, _) if self.is_out_of_flow => SideSizing::Filled(
-                self.stretch_fit_side(),
-            ),
+            (AlignItemsKeyword::Stretch, _) if self.is_out_of_flow =>
+                SideSizing::Filled(self.stretch_fit_side()),
             (AlignItemsKeyword::Normal, _) if fills => SideSizing::Filled(self.stretch_fit_side()),
             _ => SideSizing::Free,
         }
@@ -131,7 +133,11 @@ impl ItemAxis {
         if let Some(length) = size.length {
             return SideSizing::Given(SideLength::of_named(length, self.adjustment));
         }
-        let Some(keyword) = resolve_sizing_keyword(size.style, Some(self.space()), size.fit_content_limit) else {
+        let Some(keyword) = resolve_sizing_keyword(
+            size.style,
+            Some(self.space()),
+            size.fit_content_limit,
+        ) else {
             return self.auto_sizing();
         };
         match keyword {

@@ -54,8 +54,9 @@ impl AspectRatio {
         }
     }
 
+    // A box of which neither side is definite, bounded by the boxes of the limits, so that its sides keep their ratio.
     // The limits of the height first, those of the width last. A minimum height counts if the style has one.
-    fn limited_box(self, natural: Size<SideLength>) -> Size<SideLength>
+    pub fn limited_box(self, natural: Size<SideLength>) -> Size<SideLength>
         ensures { λ r. ⌜ r ≡ limited-box self natural ⌝ }
     {
         let low = match self.limits.height.max {
@@ -74,7 +75,7 @@ impl AspectRatio {
         box_at_least(narrow, self.box_of_width(self.limits.width.min))
     }
 
-    // A box of which neither side is definite, bounded by the boxes of the limits, so that its sides keep their ratio.
+    // `limited_box`, with what it promises.
     pub fn limited(self, natural: Size<SideLength>) -> Size<SideLength>
         ensures sides { λ r. ⌜ r ≡ limited-box self natural ⌝ }
         ensures law { λ r. ⌜ Held (self .limits .width) (r .width .border) ⌝ }

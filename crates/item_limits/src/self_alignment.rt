@@ -3,7 +3,14 @@ use geometry::AbsoluteAxis;
 use style::alignment::AlignItems;
 use style::alignment::Direction;
 ghost use mathlib.Core.Path.{_≡_};
-ghost use Rattle.item_limits.specs.SelfAlignment.{self-alignment, normal-fills};
+ghost use Rattle.std.specs.Options.{valueOr};
+ghost use Rattle.item_limits.specs.SelfAlignment.{inline-axis, self-alignment, Container-relative, normal-fills};
+
+fn is_inline(axis: AbsoluteAxis) -> bool
+    ensures { λ r. ⌜ r ≡ inline-axis axis ⌝ }
+{
+    matches!(axis, AbsoluteAxis::Horizontal)
+}
 
 // The item's own alignment, else the container's; `self-start` and `self-end` by the direction of the item. The inline axis is the horizontal one.
 pub fn self_alignment(
@@ -13,14 +20,11 @@ pub fn self_alignment(
     container_direction: Direction,
     axis: AbsoluteAxis,
 ) -> AlignItems
-    ensures { λ r. ⌜ r ≡ self-alignment own container «item_direction» «container_direction» axis ⌝ }
+    ensures alignment { λ r. ⌜ r ≡ self-alignment own container «item_direction» «container_direction» axis ⌝ }
+    ensures law { λ r. ⌜ Container-relative (valueOr own container) r ⌝ }
 {
-    let alignment = match own {
-        Some(own) => own,
-        None => container,
-    };
-    let axis_is_inline = matches!(axis, AbsoluteAxis::Horizontal);
-    alignment.resolve_self_relative(item_direction, container_direction, axis_is_inline)
+    own.unwrap_or(container)
+        .resolve_self_relative(item_direction, container_direction, is_inline(axis))
 }
 
 // Where `normal` behaves as `stretch`, per CSS Grid 1, section 6.2; elsewhere it behaves as `start`. In flow a box with a ratio takes its height from its width.

@@ -35,8 +35,9 @@ pub fn resolve_sizing_keyword(
         Dimension::MinContent => Some(SizingKeywordResolution::Measure(AvailableSpace::MinContent)),
         Dimension::MaxContent => Some(SizingKeywordResolution::Measure(AvailableSpace::MaxContent)),
         Dimension::FitContentPx(limit) => measure_within(Some(limit)),
-        Dimension::FitContentPercent(_) | Dimension::FitContentCalc(_) =>
-            measure_within(fit_content_limit),
+        Dimension::FitContentPercent(_) | Dimension::FitContentCalc(_) => measure_within(
+            fit_content_limit,
+        ),
         Dimension::FitContent => measure_within(stretch_fit),
         Dimension::Stretch => match stretch_fit {
             Some(size) => Some(SizingKeywordResolution::Exact(size)),
