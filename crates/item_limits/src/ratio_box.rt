@@ -54,7 +54,7 @@ impl AspectRatio {
         }
     }
 
-    // A box of which neither side is definite, bounded by the boxes of the limits, so that its sides keep their ratio.
+    // A box of which neither side is definite, bounded side by side by the boxes of its limits.
     // The limits of the height first, those of the width last. A minimum height counts if the style has one.
     pub fn limited_box(self, natural: Size<SideLength>) -> Size<SideLength>
         ensures { λ r. ⌜ r ≡ limited-box self natural ⌝ }
