@@ -73,9 +73,15 @@ impl SideLength {
 }
 
 impl Limits {
-    fn by_style(min: Option<f32>, max: Option<f32>, padding_border: f32, adjustment: f32) -> Limits
-        ensures { λ r. ⌜ r ≡ limits-of min max «padding_border» adjustment ⌝ }
+    fn by_style(
+        min: Option<f32>,
+        max: Option<f32>,
+        padding_border: f32,
+        box_sizing: BoxSizing,
+    ) -> Limits
+        ensures { λ r. ⌜ r ≡ limits-of min max «padding_border» (adjustment-of «box_sizing» «padding_border») ⌝ }
     {
+        let adjustment = box_sizing_adjustment(box_sizing, padding_border);
         let floor = SideLength::of_border(padding_border, adjustment);
         let lower = match min {
             Some(length) => SideLength::of_named(length, adjustment).at_least(floor),
@@ -103,12 +109,7 @@ impl Limits {
         ensures limits { λ r. ⌜ r ≡ limits-of min max «padding_border» (adjustment-of «box_sizing» «padding_border») ⌝ }
         ensures law { λ r. ⌜ (Number «padding_border» → Ordered «padding_border» r) ⌝ }
     {
-        Limits::by_style(
-            min,
-            max,
-            padding_border,
-            box_sizing_adjustment(box_sizing, padding_border),
-        )
+        Limits::by_style(min, max, padding_border, box_sizing)
     }
 
     // The maximum first, the minimum last: where they cross, the minimum stands.

@@ -12,6 +12,19 @@ fn is_inline(axis: AbsoluteAxis) -> bool
     matches!(axis, AbsoluteAxis::Horizontal)
 }
 
+fn in_words_of_container(
+    own: Option<AlignItems>,
+    container: AlignItems,
+    item_direction: Direction,
+    container_direction: Direction,
+    axis: AbsoluteAxis,
+) -> AlignItems
+    ensures { λ r. ⌜ r ≡ self-alignment own container «item_direction» «container_direction» axis ⌝ }
+{
+    let alignment = own.unwrap_or(container);
+    alignment.resolve_self_relative(item_direction, container_direction, is_inline(axis))
+}
+
 // The item's own alignment, else the container's; `self-start` and `self-end` by the direction of the item. The inline axis is the horizontal one.
 pub fn self_alignment(
     own: Option<AlignItems>,
@@ -23,8 +36,7 @@ pub fn self_alignment(
     ensures alignment { λ r. ⌜ r ≡ self-alignment own container «item_direction» «container_direction» axis ⌝ }
     ensures law { λ r. ⌜ Container-relative (valueOr own container) r ⌝ }
 {
-    own.unwrap_or(container)
-        .resolve_self_relative(item_direction, container_direction, is_inline(axis))
+    in_words_of_container(own, container, item_direction, container_direction, axis)
 }
 
 // Where `normal` behaves as `stretch`, per CSS Grid 1, section 6.2; elsewhere it behaves as `start`. In flow a box with a ratio takes its height from its width.
