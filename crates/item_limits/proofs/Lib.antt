@@ -1,0 +1,4 @@
+pub mod Held
+pub mod RatioBoxes
+pub mod SelfAlignment
+pub mod ItemAxes
