@@ -1,0 +1,2 @@
+pub mod ScrollableOverflow
+pub mod Baselines
