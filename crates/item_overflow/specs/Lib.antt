@@ -1,2 +1,3 @@
 pub mod ScrollableOverflow
 pub mod Baselines
+pub mod Laws

@@ -9,6 +9,7 @@ use number::f32_min;
 use style::alignment::Direction;
 use style::modes::Overflow;
 ghost use mathlib.Core.Path.{_≡_};
+ghost use Rattle.item_overflow.specs.Laws.{Contributes};
 ghost use Rattle.item_overflow.specs.ScrollableOverflow as area;
 
 fn shifted(line: Line<f32>, by: f32) -> Line<f32>
@@ -139,7 +140,8 @@ pub fn compute_scrollable_overflow_contribution(
     item: ItemBox,
     container: ContainerBox,
 ) -> Rect<f32>
-    ensures { λ r. ⌜ r ≡ area.scrollable-overflow-contribution container item ⌝ }
+    ensures value { λ r. ⌜ r ≡ area.scrollable-overflow-contribution container item ⌝ }
+    ensures law { λ r. ⌜ Contributes container item r ⌝ }
 {
     item.contribution(container)
 }
