@@ -67,6 +67,7 @@ add-zero-le f (fin s (suc m) e) t h = go s t
     mirror r u =
         le-neg (fin (not r) (suc m) e) (round f (not r) (suc m * up e * 1) (down e * 1))
         (subst (λ (z : Float). T (le (fin (not r) (suc m) e) z)) (plus-zero f (not r) m e) (add-grows f (fin (not r) (suc m) e) Floats.zero u tt tt (number-le Floats.zero tt)))
+
     go : (r : Bool) → T (fits f (fin r (suc m) e)) → T (le (add f (fin r (suc m) e) Floats.zero) (fin r (suc m) e))
     go true u = subst (λ (z : Float). T (le z (fin true (suc m) e))) (opposite-round f true _ _ ∙ sym (plus-zero f true m e)) (mirror true u)
     go false u = subst (λ (z : Float). T (le z (fin false (suc m) e))) (opposite-round f false _ _ ∙ sym (plus-zero f false m e)) (mirror false u)

@@ -1,3 +1,4 @@
 pub mod ScrollableOverflow
 pub mod Baselines
 pub mod Laws
+pub mod Worked

@@ -120,7 +120,12 @@ impl ItemBox {
         let keeps = self.keeps_overflow();
         let inline = self.inline_overflow(container);
         let inline_reach = reach(keeps, self.overflow.x, self.size.width, inline);
-        let block_reach = reach(keeps, self.overflow.y, self.size.height, self.block_overflow());
+        let block_reach = reach(
+            keeps,
+            self.overflow.y,
+            self.size.height,
+            self.block_overflow(),
+        );
         if is_empty(inline_reach) || is_empty(block_reach) {
             return Rect::ZERO;
         }
@@ -136,10 +141,7 @@ impl ItemBox {
 }
 
 // The rectangle that an item adds to its container's scrollable overflow area, from the container's scroll origin.
-pub fn compute_scrollable_overflow_contribution(
-    item: ItemBox,
-    container: ContainerBox,
-) -> Rect<f32>
+pub fn compute_scrollable_overflow_contribution(item: ItemBox, container: ContainerBox) -> Rect<f32>
     ensures value { λ r. ⌜ r ≡ area.scrollable-overflow-contribution container item ⌝ }
     ensures law { λ r. ⌜ Contributes container item r ⌝ }
 {

@@ -2,3 +2,4 @@
 pub mod baseline;
 pub mod boxes;
 pub mod contribution;
+pub mod worked;
