@@ -1,0 +1,4 @@
+pub mod Shrinks
+pub mod Finite
+pub mod Axes
+pub mod Reached

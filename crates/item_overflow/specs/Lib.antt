@@ -1,0 +1,4 @@
+pub mod ScrollableOverflow
+pub mod Baselines
+pub mod Laws
+pub mod Worked
