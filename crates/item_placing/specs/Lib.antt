@@ -1,0 +1,5 @@
+pub mod Edges
+pub mod Offsets
+pub mod Blocks
+pub mod Margins
+pub mod Places
