@@ -3,3 +3,4 @@ pub mod Offsets
 pub mod Blocks
 pub mod Margins
 pub mod Places
+pub mod Laws

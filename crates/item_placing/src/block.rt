@@ -13,13 +13,13 @@ fn area_size(area: Line<f32>) -> f32
     (area.end - area.start).max(0.0)
 }
 
-pub fn both_set(inset: Line<Option<f32>>) -> bool
+pub(crate) fn both_set(inset: Line<Option<f32>>) -> bool
     ensures { λ r. ⌜ r ≡ both-set inset ⌝ }
 {
     inset.start.is_some() && inset.end.is_some()
 }
 
-pub fn length_of(block: Line<f32>) -> f32
+pub(crate) fn length_of(block: Line<f32>) -> f32
     ensures { λ r. ⌜ r ≡ length-of block ⌝ }
 {
     block.end - block.start
@@ -45,14 +45,14 @@ fn block_within(size: f32, inset: Line<Option<f32>>, direction: Direction) -> Li
 }
 
 impl AreaItem {
-    pub fn axis_direction(self) -> Direction
+    pub(crate) fn axis_direction(self) -> Direction
         ensures { λ r. ⌜ r ≡ direction-of self ⌝ }
     {
         axis_direction(self.axis, self.direction)
     }
 
     // The insets that bound the block: in flow there are none.
-    pub fn insets(self) -> Line<Option<f32>>
+    pub(crate) fn insets(self) -> Line<Option<f32>>
         ensures { λ r. ⌜ r ≡ insets-of self ⌝ }
     {
         if self.position.is_out_of_flow() {
@@ -66,7 +66,7 @@ impl AreaItem {
     }
 
     // The block that the item is aligned in, measured from the start of its area.
-    pub fn block(self) -> Line<f32>
+    pub(crate) fn block(self) -> Line<f32>
         ensures { λ r. ⌜ r ≡ block-of self ⌝ }
     {
         block_within(area_size(self.area), self.insets(), self.axis_direction())

@@ -16,7 +16,7 @@ pub enum Edge {
 }
 
 // The way in which an axis runs: vertically always onward from the top.
-pub fn axis_direction(axis: AbsoluteAxis, direction: Direction) -> Direction
+pub(crate) fn axis_direction(axis: AbsoluteAxis, direction: Direction) -> Direction
     ensures { λ r. ⌜ r ≡ axis-direction axis direction ⌝ }
 {
     match axis {
@@ -26,7 +26,7 @@ pub fn axis_direction(axis: AbsoluteAxis, direction: Direction) -> Direction
 }
 
 // The edge that a keyword names. A baseline counts as the start; `self-start` and `self-end` as those of an item that runs as its container does.
-pub fn aligned_edge(keyword: AlignItemsKeyword, direction: Direction) -> Edge
+pub(crate) fn aligned_edge(keyword: AlignItemsKeyword, direction: Direction) -> Edge
     ensures { λ r. ⌜ r ≡ aligned-edge keyword direction ⌝ }
 {
     match keyword {
@@ -43,7 +43,7 @@ pub fn aligned_edge(keyword: AlignItemsKeyword, direction: Direction) -> Edge
 }
 
 // Between two insets an alignment is safe unless it says otherwise, per CSS Positioned Layout 3.
-pub fn overflow_position(safety: AlignmentSafety, between_insets: bool) -> AlignmentSafety
+pub(crate) fn overflow_position(safety: AlignmentSafety, between_insets: bool) -> AlignmentSafety
     ensures { λ r. ⌜ r ≡ overflow-position safety «between_insets» ⌝ }
 {
     match safety {

@@ -48,7 +48,7 @@ impl AreaItem {
         }
     }
 
-    pub fn set_margin_sum(self) -> f32
+    pub(crate) fn set_margin_sum(self) -> f32
         ensures { λ r. ⌜ r ≡ set-size self ⌝ }
     {
         let set = self.set_margins();
@@ -69,7 +69,7 @@ impl AreaItem {
         }
     }
 
-    pub fn used_margins(self) -> Line<f32>
+    pub(crate) fn used_margins(self) -> Line<f32>
         ensures { λ r. ⌜ r ≡ used-margins self ⌝ }
     {
         let space = self.auto_space();

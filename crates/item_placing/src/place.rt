@@ -8,6 +8,7 @@ use crate::edge::overflow_position;
 use crate::edge::resolve_self_alignment_safety;
 use geometry::Line;
 ghost use mathlib.Core.Path.{_≡_};
+ghost use Rattle.item_placing.specs.Laws.{Placed};
 ghost use Rattle.item_placing.specs.Places.{overflows, edge-by-alignment, edge-of, placed};
 
 impl AreaItem {
@@ -55,6 +56,7 @@ impl AreaItem {
 // The place of the border box along the axis, and the margins that the item uses.
 pub fn align_item_within_area(item: AreaItem) -> (f32, Line<f32>)
     ensures value { λ r. ⌜ r ≡ placed item ⌝ }
+    ensures laws { λ r. ⌜ Placed item r ⌝ }
 {
     item.place()
 }
