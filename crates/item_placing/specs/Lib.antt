@@ -4,3 +4,4 @@ pub mod Blocks
 pub mod Margins
 pub mod Places
 pub mod Laws
+pub mod Worked

@@ -31,10 +31,11 @@ pub(crate) fn aligned_edge(keyword: AlignItemsKeyword, direction: Direction) -> 
 {
     match keyword {
         AlignItemsKeyword::Center => Edge::Middle,
-        AlignItemsKeyword::End | AlignItemsKeyword::FlexEnd | AlignItemsKeyword::SelfEnd => match direction {
-            Direction::Ltr => Edge::Last,
-            Direction::Rtl => Edge::First,
-        },
+        AlignItemsKeyword::End | AlignItemsKeyword::FlexEnd | AlignItemsKeyword::SelfEnd =>
+            match direction {
+                Direction::Ltr => Edge::Last,
+                Direction::Rtl => Edge::First,
+            },
         _ => match direction {
             Direction::Ltr => Edge::First,
             Direction::Rtl => Edge::Last,

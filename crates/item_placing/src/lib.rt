@@ -5,3 +5,4 @@ pub mod edge;
 pub mod margins;
 pub mod offset;
 pub mod place;
+pub mod worked;

@@ -23,7 +23,10 @@ impl AreaItem {
         ensures { λ r. ⌜ r ≡ edge-by-alignment self ⌝ }
     {
         let safety = overflow_position(self.alignment.safety, both_set(self.insets()));
-        let keyword = resolve_self_alignment_safety(self.alignment.with_safety(safety), self.overflows());
+        let keyword = resolve_self_alignment_safety(
+            self.alignment.with_safety(safety),
+            self.overflows(),
+        );
         aligned_edge(keyword, self.axis_direction())
     }
 
