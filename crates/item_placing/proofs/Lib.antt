@@ -1,0 +1,2 @@
+pub mod AutoMargins
+pub mod Laws
