@@ -25,10 +25,11 @@ pub struct Cache<H> {
     memory: Memory,
 }
 
-impl<H> Cache<H> {
-    // A cache that remembers nothing yet; for want of memory, the host below comes back.
+impl<H: LayoutPartialTree> Cache<H> {
+    // A cache that remembers nothing yet, and is in order over a host in order. For want of memory the host below comes back.
     pub fn new(heap: Global, below: H) -> Result<Cache<H>, Refused<H>>
-        ensures { λ r. ⌜ Cases r (λ c. (c .below ≡ below) × (entries-of c ≡ [])) (λ e. e .value ≡ below) ⌝ }
+        ensures made { λ r. ⌜ Cases r (λ c. (c .below ≡ below) × (entries-of c ≡ [])) (λ e. e .value ≡ below) ⌝ }
+        ensures order { λ r. ⌜ (ordered below → Cases r (λ c. ordered (c .below) × Remembers-rightly meaning c) (λ e. ordered (e .value))) ⌝ }
     {
         match Memory::new(heap) {
             Ok(memory) => Ok(Cache { below, memory }),
