@@ -14,14 +14,18 @@ use Rattle.tree.specs.declared.question.Question.{Question}
 use Rattle.tree.specs.declared.fault.HostFault.{HostFault}
 use Rattle.tree.specs.Bits.{is-number}
 use Rattle.tree.specs.Questions.{every-number}
-use Rattle.tree.specs.Meaning.{Counts, counts-of, raise}
-use Rattle.layers.specs.Remembering.{recalled, after-measuring}
+use Rattle.tree.specs.Meaning.{Meaning, Counts, counts-of, raise}
+use Rattle.layers.specs.Remembering.{recalled, after-measuring, All-right}
 use Rattle.layers.specs.declared.memory.Remembered.{Remembered}
 use Rattle.layers.specs.declared.cache.Cache.{Cache}
 use Rattle.layers.specs.declared.tally.Tally.{Tally}
 
 abbrev pub entries-of : {H : Type 0} → Cache H → List Remembered
 entries-of c = vec-items (c .memory .entries)
+
+-- each remembered answer is the one of the host below
+abbrev pub Remembers-rightly : {H : Type 0} → (H → Meaning) → Cache H → Type 0
+Remembers-rightly meaning c = All-right (meaning (c .below) .means) (entries-of c)
 
 abbrev pub counted : {H : Type 0} → Tally H → Option Counts
 counted t = Some (counts-of (t .measurements) (t .layouts))

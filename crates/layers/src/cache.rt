@@ -14,11 +14,9 @@ use tree::traits::LayoutPartialTree;
 ghost use mathlib.Core.Path.{_≡_};
 ghost use mathlib.Core.List.{[]};
 ghost use Rattle.std.specs.Results.{Cases};
-ghost use Rattle.std.specs.declared.option.Option.{Option as Maybe};
 ghost use Rattle.std.specs.declared.option.Option.the-variants.{None};
-ghost use Rattle.tree.specs.Meaning.{Counts, measures, lays-out, fetches, stores, with-stored, raise};
-ghost use Rattle.layers.specs.Remembering.{All-right};
-ghost use Rattle.layers.specs.Layers.{entries-of, Cached};
+ghost use Rattle.tree.specs.Meaning.{measures, lays-out, fetches, stores, with-stored, raise};
+ghost use Rattle.layers.specs.Layers.{entries-of, Remembers-rightly, Cached};
 
 // In order when the host below is, and each remembered answer is the one below.
 #[derive(Drop)]
@@ -27,10 +25,11 @@ pub struct Cache<H> {
     memory: Memory,
 }
 
-impl<H> Cache<H> {
-    // A cache that remembers nothing yet; for want of memory, the host below comes back.
+impl<H: LayoutPartialTree> Cache<H> {
+    // A cache that remembers nothing yet, and is in order over a host in order. For want of memory the host below comes back.
     pub fn new(heap: Global, below: H) -> Result<Cache<H>, Refused<H>>
-        ensures { λ r. ⌜ Cases r (λ c. (c .below ≡ below) × (entries-of c ≡ [])) (λ e. e .value ≡ below) ⌝ }
+        ensures made { λ r. ⌜ Cases r (λ c. (c .below ≡ below) × (entries-of c ≡ [])) (λ e. e .value ≡ below) ⌝ }
+        ensures order { λ r. ⌜ (ordered below → Cases r (λ c. ordered (c .below) × Remembers-rightly meaning c) (λ e. ordered (e .value))) ⌝ }
     {
         match Memory::new(heap) {
             Ok(memory) => Ok(Cache { below, memory }),
@@ -53,19 +52,18 @@ impl<H> Cache<H> {
 }
 
 pub impl<H: LayoutPartialTree> LayoutPartialTree for Cache<H> as CacheTree {
-    ghost meaning = { λ s. H·LayoutPartialTree .meaning (s .below) };
+    ghost meaning = { λ s. meaning (s .below) };
 
-    ghost ordered = { λ s. H·LayoutPartialTree .ordered (s .below) × All-right (H·LayoutPartialTree .meaning (s .below) .means) (entries-of s) };
+    ghost ordered = { λ s. ordered (s .below) × Remembers-rightly meaning s };
 
     ghost tallied = { λ _. None };
 
     fn measure(&mut self, question: Question) -> Result<Size<f32>, HostFault>
-        requires { ⌜ H·LayoutPartialTree .ordered (now self .below) × All-right (H·LayoutPartialTree .meaning (now self .below) .means) (entries-of (now self)) ⌝ }
-        ensures answer { λ r. ⌜ r ≡ measures (H·LayoutPartialTree .meaning (now (self .entry) .below) .means) question ⌝ }
-        ensures order { λ _. ⌜ H·LayoutPartialTree .ordered (now (self .exit) .below) × All-right (H·LayoutPartialTree .meaning (now (self .exit) .below) .means) (entries-of (now (self .exit))) ⌝ }
-        ensures same { λ _. ⌜ H·LayoutPartialTree .meaning (now (self .exit) .below) ≡ H·LayoutPartialTree .meaning (now (self .entry) .below) ⌝ }
-        ensures counts { λ _. ⌜ _≡_ {A = Maybe Counts} None None ⌝ }
-        ensures cached { λ r. ⌜ Cached (H·LayoutPartialTree .tallied) (now (self .entry)) (now (self .exit)) question r ⌝ }
+        requires { ⌜ ordered (now self .below) × Remembers-rightly meaning (now self) ⌝ }
+        ensures answer { λ r. ⌜ r ≡ measures (meaning (now (self .entry) .below) .means) question ⌝ }
+        ensures order { λ _. ⌜ ordered (now (self .exit) .below) × Remembers-rightly meaning (now (self .exit)) ⌝ }
+        ensures same { λ _. ⌜ meaning (now (self .exit) .below) ≡ meaning (now (self .entry) .below) ⌝ }
+        ensures cached { λ r. ⌜ Cached (tallied) (now (self .entry)) (now (self .exit)) question r ⌝ }
     {
         if let Some(size) = self.memory.recall(question) {
             return Ok(size);
@@ -78,25 +76,23 @@ pub impl<H: LayoutPartialTree> LayoutPartialTree for Cache<H> as CacheTree {
     }
 
     fn perform_layout(&mut self, question: Question) -> Result<LayoutOutput, HostFault>
-        requires { ⌜ H·LayoutPartialTree .ordered (now self .below) × All-right (H·LayoutPartialTree .meaning (now self .below) .means) (entries-of (now self)) ⌝ }
-        ensures answer { λ r. ⌜ r ≡ lays-out (H·LayoutPartialTree .meaning (now (self .entry) .below) .means) question ⌝ }
-        ensures order { λ _. ⌜ H·LayoutPartialTree .ordered (now (self .exit) .below) × All-right (H·LayoutPartialTree .meaning (now (self .exit) .below) .means) (entries-of (now (self .exit))) ⌝ }
-        ensures same { λ _. ⌜ H·LayoutPartialTree .meaning (now (self .exit) .below) ≡ H·LayoutPartialTree .meaning (now (self .entry) .below) ⌝ }
-        ensures counts { λ _. ⌜ _≡_ {A = Maybe Counts} None None ⌝ }
+        requires { ⌜ ordered (now self .below) × Remembers-rightly meaning (now self) ⌝ }
+        ensures answer { λ r. ⌜ r ≡ lays-out (meaning (now (self .entry) .below) .means) question ⌝ }
+        ensures order { λ _. ⌜ ordered (now (self .exit) .below) × Remembers-rightly meaning (now (self .exit)) ⌝ }
+        ensures same { λ _. ⌜ meaning (now (self .exit) .below) ≡ meaning (now (self .entry) .below) ⌝ }
         ensures memory { λ _. ⌜ now (self .exit) .memory ≡ now (self .entry) .memory ⌝ }
-        ensures below { λ _. ⌜ H·LayoutPartialTree .tallied (now (self .exit) .below) ≡ raise 0 1 (H·LayoutPartialTree .tallied (now (self .entry) .below)) ⌝ }
+        ensures below { λ _. ⌜ tallied (now (self .exit) .below) ≡ raise 0 1 (tallied (now (self .entry) .below)) ⌝ }
     {
         self.below.perform_layout(question)
     }
 
     fn fetch_candidate(&mut self, question: Question, index: u32) -> Result<OofCandidate, HostFault>
-        requires { ⌜ H·LayoutPartialTree .ordered (now self .below) × All-right (H·LayoutPartialTree .meaning (now self .below) .means) (entries-of (now self)) ⌝ }
-        ensures answer { λ r. ⌜ r ≡ fetches (H·LayoutPartialTree .meaning (now (self .entry) .below) .means) question index ⌝ }
-        ensures order { λ _. ⌜ H·LayoutPartialTree .ordered (now (self .exit) .below) × All-right (H·LayoutPartialTree .meaning (now (self .exit) .below) .means) (entries-of (now (self .exit))) ⌝ }
-        ensures same { λ _. ⌜ H·LayoutPartialTree .meaning (now (self .exit) .below) ≡ H·LayoutPartialTree .meaning (now (self .entry) .below) ⌝ }
-        ensures counts { λ _. ⌜ _≡_ {A = Maybe Counts} None None ⌝ }
+        requires { ⌜ ordered (now self .below) × Remembers-rightly meaning (now self) ⌝ }
+        ensures answer { λ r. ⌜ r ≡ fetches (meaning (now (self .entry) .below) .means) question index ⌝ }
+        ensures order { λ _. ⌜ ordered (now (self .exit) .below) × Remembers-rightly meaning (now (self .exit)) ⌝ }
+        ensures same { λ _. ⌜ meaning (now (self .exit) .below) ≡ meaning (now (self .entry) .below) ⌝ }
         ensures memory { λ _. ⌜ now (self .exit) .memory ≡ now (self .entry) .memory ⌝ }
-        ensures below { λ _. ⌜ H·LayoutPartialTree .tallied (now (self .exit) .below) ≡ H·LayoutPartialTree .tallied (now (self .entry) .below) ⌝ }
+        ensures below { λ _. ⌜ tallied (now (self .exit) .below) ≡ tallied (now (self .entry) .below) ⌝ }
     {
         self.below.fetch_candidate(question, index)
     }
@@ -106,13 +102,12 @@ pub impl<H: LayoutPartialTree> LayoutPartialTree for Cache<H> as CacheTree {
     }
 
     fn store(&mut self, node: u64, layout: &Layout) -> Result<(), HostFault>
-        requires { ⌜ H·LayoutPartialTree .ordered (now self .below) × All-right (H·LayoutPartialTree .meaning (now self .below) .means) (entries-of (now self)) ⌝ }
-        ensures answer { λ r. ⌜ r ≡ stores (H·LayoutPartialTree .meaning (now (self .entry) .below) .means) node ⌝ }
-        ensures order { λ _. ⌜ H·LayoutPartialTree .ordered (now (self .exit) .below) × All-right (H·LayoutPartialTree .meaning (now (self .exit) .below) .means) (entries-of (now (self .exit))) ⌝ }
-        ensures change { λ _. ⌜ H·LayoutPartialTree .meaning (now (self .exit) .below) ≡ with-stored (H·LayoutPartialTree .meaning (now (self .entry) .below)) node (now (layout .entry)) ⌝ }
-        ensures counts { λ _. ⌜ _≡_ {A = Maybe Counts} None None ⌝ }
+        requires { ⌜ ordered (now self .below) × Remembers-rightly meaning (now self) ⌝ }
+        ensures answer { λ r. ⌜ r ≡ stores (meaning (now (self .entry) .below) .means) node ⌝ }
+        ensures order { λ _. ⌜ ordered (now (self .exit) .below) × Remembers-rightly meaning (now (self .exit)) ⌝ }
+        ensures change { λ _. ⌜ meaning (now (self .exit) .below) ≡ with-stored (meaning (now (self .entry) .below)) node (now (layout .entry)) ⌝ }
         ensures memory { λ _. ⌜ now (self .exit) .memory ≡ now (self .entry) .memory ⌝ }
-        ensures below { λ _. ⌜ H·LayoutPartialTree .tallied (now (self .exit) .below) ≡ H·LayoutPartialTree .tallied (now (self .entry) .below) ⌝ }
+        ensures below { λ _. ⌜ tallied (now (self .exit) .below) ≡ tallied (now (self .entry) .below) ⌝ }
     {
         self.below.store(node, layout)
     }

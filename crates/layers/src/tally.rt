@@ -9,7 +9,7 @@ use tree::question::Question;
 use tree::traits::LayoutGridContainer;
 use tree::traits::LayoutPartialTree;
 ghost use mathlib.Core.Path.{_≡_};
-ghost use Rattle.tree.specs.Meaning.{measures, lays-out, fetches, stores, with-stored, raise};
+ghost use Rattle.tree.specs.Meaning.{measures, lays-out, fetches, stores, with-stored, up, raise};
 ghost use Rattle.layers.specs.Layers.{counted};
 
 // How many measurements and layouts were asked for, answered or not. Each count stops at 2^32 - 1.
@@ -18,6 +18,12 @@ pub struct Tally<H> {
     below: H,
     measurements: u32,
     layouts: u32,
+}
+
+fn one_more(count: &mut u32)
+    ensures { λ _. ⌜ now (count .exit) ≡ up (now (count .entry)) 1 ⌝ }
+{
+    *count = count.saturating_add(1);
 }
 
 impl<H> Tally<H> {
@@ -64,43 +70,43 @@ impl<H> Tally<H> {
 }
 
 pub impl<H: LayoutPartialTree> LayoutPartialTree for Tally<H> as TallyTree {
-    ghost meaning = { λ s. H·LayoutPartialTree .meaning (s .below) };
+    ghost meaning = { λ s. meaning (s .below) };
 
-    ghost ordered = { λ s. H·LayoutPartialTree .ordered (s .below) };
+    ghost ordered = { λ s. ordered (s .below) };
 
     ghost tallied = { counted };
 
     fn measure(&mut self, question: Question) -> Result<Size<f32>, HostFault>
-        requires { ⌜ H·LayoutPartialTree .ordered (now self .below) ⌝ }
-        ensures answer { λ r. ⌜ r ≡ measures (H·LayoutPartialTree .meaning (now (self .entry) .below) .means) question ⌝ }
-        ensures order { λ _. ⌜ H·LayoutPartialTree .ordered (now (self .exit) .below) ⌝ }
-        ensures same { λ _. ⌜ H·LayoutPartialTree .meaning (now (self .exit) .below) ≡ H·LayoutPartialTree .meaning (now (self .entry) .below) ⌝ }
+        requires { ⌜ ordered (now self .below) ⌝ }
+        ensures answer { λ r. ⌜ r ≡ measures (meaning (now (self .entry) .below) .means) question ⌝ }
+        ensures order { λ _. ⌜ ordered (now (self .exit) .below) ⌝ }
+        ensures same { λ _. ⌜ meaning (now (self .exit) .below) ≡ meaning (now (self .entry) .below) ⌝ }
         ensures counts { λ _. ⌜ counted (now (self .exit)) ≡ raise 1 0 (counted (now (self .entry))) ⌝ }
-        ensures below { λ _. ⌜ H·LayoutPartialTree .tallied (now (self .exit) .below) ≡ raise 1 0 (H·LayoutPartialTree .tallied (now (self .entry) .below)) ⌝ }
+        ensures below { λ _. ⌜ tallied (now (self .exit) .below) ≡ raise 1 0 (tallied (now (self .entry) .below)) ⌝ }
     {
-        self.measurements = self.measurements.saturating_add(1);
+        one_more(&mut self.measurements);
         self.below.measure(question)
     }
 
     fn perform_layout(&mut self, question: Question) -> Result<LayoutOutput, HostFault>
-        requires { ⌜ H·LayoutPartialTree .ordered (now self .below) ⌝ }
-        ensures answer { λ r. ⌜ r ≡ lays-out (H·LayoutPartialTree .meaning (now (self .entry) .below) .means) question ⌝ }
-        ensures order { λ _. ⌜ H·LayoutPartialTree .ordered (now (self .exit) .below) ⌝ }
-        ensures same { λ _. ⌜ H·LayoutPartialTree .meaning (now (self .exit) .below) ≡ H·LayoutPartialTree .meaning (now (self .entry) .below) ⌝ }
+        requires { ⌜ ordered (now self .below) ⌝ }
+        ensures answer { λ r. ⌜ r ≡ lays-out (meaning (now (self .entry) .below) .means) question ⌝ }
+        ensures order { λ _. ⌜ ordered (now (self .exit) .below) ⌝ }
+        ensures same { λ _. ⌜ meaning (now (self .exit) .below) ≡ meaning (now (self .entry) .below) ⌝ }
         ensures counts { λ _. ⌜ counted (now (self .exit)) ≡ raise 0 1 (counted (now (self .entry))) ⌝ }
-        ensures below { λ _. ⌜ H·LayoutPartialTree .tallied (now (self .exit) .below) ≡ raise 0 1 (H·LayoutPartialTree .tallied (now (self .entry) .below)) ⌝ }
+        ensures below { λ _. ⌜ tallied (now (self .exit) .below) ≡ raise 0 1 (tallied (now (self .entry) .below)) ⌝ }
     {
-        self.layouts = self.layouts.saturating_add(1);
+        one_more(&mut self.layouts);
         self.below.perform_layout(question)
     }
 
     fn fetch_candidate(&mut self, question: Question, index: u32) -> Result<OofCandidate, HostFault>
-        requires { ⌜ H·LayoutPartialTree .ordered (now self .below) ⌝ }
-        ensures answer { λ r. ⌜ r ≡ fetches (H·LayoutPartialTree .meaning (now (self .entry) .below) .means) question index ⌝ }
-        ensures order { λ _. ⌜ H·LayoutPartialTree .ordered (now (self .exit) .below) ⌝ }
-        ensures same { λ _. ⌜ H·LayoutPartialTree .meaning (now (self .exit) .below) ≡ H·LayoutPartialTree .meaning (now (self .entry) .below) ⌝ }
+        requires { ⌜ ordered (now self .below) ⌝ }
+        ensures answer { λ r. ⌜ r ≡ fetches (meaning (now (self .entry) .below) .means) question index ⌝ }
+        ensures order { λ _. ⌜ ordered (now (self .exit) .below) ⌝ }
+        ensures same { λ _. ⌜ meaning (now (self .exit) .below) ≡ meaning (now (self .entry) .below) ⌝ }
         ensures counts { λ _. ⌜ counted (now (self .exit)) ≡ counted (now (self .entry)) ⌝ }
-        ensures below { λ _. ⌜ H·LayoutPartialTree .tallied (now (self .exit) .below) ≡ H·LayoutPartialTree .tallied (now (self .entry) .below) ⌝ }
+        ensures below { λ _. ⌜ tallied (now (self .exit) .below) ≡ tallied (now (self .entry) .below) ⌝ }
     {
         self.below.fetch_candidate(question, index)
     }
@@ -110,12 +116,12 @@ pub impl<H: LayoutPartialTree> LayoutPartialTree for Tally<H> as TallyTree {
     }
 
     fn store(&mut self, node: u64, layout: &Layout) -> Result<(), HostFault>
-        requires { ⌜ H·LayoutPartialTree .ordered (now self .below) ⌝ }
-        ensures answer { λ r. ⌜ r ≡ stores (H·LayoutPartialTree .meaning (now (self .entry) .below) .means) node ⌝ }
-        ensures order { λ _. ⌜ H·LayoutPartialTree .ordered (now (self .exit) .below) ⌝ }
-        ensures change { λ _. ⌜ H·LayoutPartialTree .meaning (now (self .exit) .below) ≡ with-stored (H·LayoutPartialTree .meaning (now (self .entry) .below)) node (now (layout .entry)) ⌝ }
+        requires { ⌜ ordered (now self .below) ⌝ }
+        ensures answer { λ r. ⌜ r ≡ stores (meaning (now (self .entry) .below) .means) node ⌝ }
+        ensures order { λ _. ⌜ ordered (now (self .exit) .below) ⌝ }
+        ensures change { λ _. ⌜ meaning (now (self .exit) .below) ≡ with-stored (meaning (now (self .entry) .below)) node (now (layout .entry)) ⌝ }
         ensures counts { λ _. ⌜ counted (now (self .exit)) ≡ counted (now (self .entry)) ⌝ }
-        ensures below { λ _. ⌜ H·LayoutPartialTree .tallied (now (self .exit) .below) ≡ H·LayoutPartialTree .tallied (now (self .entry) .below) ⌝ }
+        ensures below { λ _. ⌜ tallied (now (self .exit) .below) ≡ tallied (now (self .entry) .below) ⌝ }
     {
         self.below.store(node, layout)
     }
