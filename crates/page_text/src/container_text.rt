@@ -91,11 +91,7 @@ fn read_track_alignment(value: &str) -> Option<AlignContent>
 }
 
 // Fills a place that is empty.
-fn fill<T: Drop>(
-    place: &mut Option<T>,
-    read: Option<T>,
-    expected: Expected,
-) -> Result<(), Expected>
+fn fill<T: Drop>(place: &mut Option<T>, read: Option<T>, expected: Expected) -> Result<(), Expected>
     ensures place { λ _. ⌜ now (place .exit) ≡ filled (now (place .entry)) read ⌝ }
     ensures answer { λ r. ⌜ r ≡ filling (now (place .entry)) read expected ⌝ }
 {
