@@ -1,2 +1,3 @@
-pub mod Decimals
-pub mod Names
+mod Places
+mod WordsOfTracks
+mod Ranges

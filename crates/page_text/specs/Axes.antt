@@ -7,6 +7,7 @@ use Rattle.geometry.specs.declared.AbsoluteAxis.{AbsoluteAxis}
 use Rattle.geometry.specs.declared.AbsoluteAxis.the-variants.{Horizontal, Vertical}
 use Rattle.style.specs.Alignment.{is-rtl}
 use Rattle.style.specs.declared.alignment.AlignContent.{AlignContent}
+use Rattle.tracks.specs.Laws.{In-range}
 use Rattle.tracks.specs.Tracks.{plus, track-alignment, aligned}
 use Rattle.tracks.specs.declared.grid_track.GridTrack.{GridTrack}
 use Rattle.tracks.specs.declared.track_alignment.TrackAlignment.{TrackAlignment}
@@ -31,3 +32,7 @@ shares axis c ts = track-alignment (extent axis (c .«content_size»)) (track-st
 
 abbrev pub aligned-along : AbsoluteAxis → ContainerDescription → List GridTrack → List GridTrack
 aligned-along axis c ts = aligned (extent axis (c .«content_size»)) (origin axis c) (track-style axis c) (runs-back axis c) ts
+
+-- at most 513 tracks, and each number of the axis in limits
+abbrev pub Axis-in-range : AbsoluteAxis → ContainerDescription → List GridTrack → Type 0
+Axis-in-range axis c ts = In-range (extent axis (c .«content_size»)) (sides axis (c .padding)) (sides axis (c .border)) ts

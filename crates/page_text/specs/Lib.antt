@@ -1,3 +1,5 @@
-pub mod Decimals
-pub mod Keywords
+pub mod Containers
+pub mod WrittenTracks
+pub mod Pages
 pub mod Axes
+pub mod PageLaws

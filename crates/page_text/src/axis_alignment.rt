@@ -9,7 +9,8 @@ use tracks::track_alignment::TrackAlignment;
 use tracks::walk::align_tracks;
 ghost use mathlib.Core.Path.{_≡_};
 ghost use Rattle.geometry.specs.Shapes.{extent, sides};
-ghost use Rattle.page_text.specs.Axes.{track-style, runs-back, shares, aligned-along};
+ghost use Rattle.tracks.specs.Laws.{Well-placed};
+ghost use Rattle.page_text.specs.Axes.{track-style, runs-back, shares, aligned-along, Axis-in-range};
 
 // The space that an axis has, the alignment asked for, and what it came to.
 #[derive(Clone, Copy)]
@@ -57,6 +58,7 @@ pub fn align_axis(
     ensures offsets { λ _. ⌜ now (tracks .exit) ≡ aligned-along axis (now (container .entry)) (now (tracks .entry)) ⌝ }
     ensures said { λ r. ⌜ r .alignment ≡ shares axis (now (container .entry)) (now (tracks .entry)) ⌝ }
     ensures asked { λ r. ⌜ r .asked ≡ track-style axis (now (container .entry)) ⌝ }
+    ensures placed { λ _. ⌜ (Axis-in-range axis (now (container .entry)) (now (tracks .entry)) → Well-placed (runs-back axis (now (container .entry))) (now (tracks .exit))) ⌝ }
     ensures content { λ r. ⌜ r .«content_size» ≡ extent axis (now (container .entry) .«content_size») ⌝ }
 {
     let content_size = container.content_size.get_abs(axis);

@@ -1,23 +1,27 @@
 // The declarations of a container: each property at most once, in any order.
-use crate::decimal::read_decimal;
-use crate::keyword::Property;
-use crate::keyword::content_keyword_named;
-use crate::keyword::direction_named;
-use crate::keyword::is_positional;
-use crate::keyword::overflow_position_named;
-use crate::keyword::property_named;
 use crate::page_description::ContainerDescription;
 use crate::read_error::Expected;
 use geometry::Rect;
 use geometry::Size;
+use page_words::keyword::Property;
+use page_words::keyword::content_keyword_named;
+use page_words::keyword::direction_named;
+use page_words::keyword::is_positional;
+use page_words::keyword::overflow_position_named;
+use page_words::keyword::property_named;
+use page_words::size::read_size;
 use style::alignment::AlignContent;
 use style::alignment::AlignContentKeyword;
 use style::alignment::AlignmentSafety;
 use style::alignment::Direction;
+ghost use mathlib.Core.Path.{_≡_};
+ghost use Rattle.std.specs.Slices.{found};
+ghost use Rattle.page_words.specs.Keywords.{meaning-of, properties};
+ghost use Rattle.page_text.specs.Containers.{filled, filling, container-finished, Sides-in-range, Aligns, Text-in-range, Takes, Declares};
 
 // What has been said of a container so far.
 #[derive(Clone, Copy)]
-pub struct ContainerText {
+pub(crate) struct ContainerText {
     width: Option<f32>,
     height: Option<f32>,
     padding: Option<Rect<f32>>,
@@ -27,16 +31,10 @@ pub struct ContainerText {
     align_content: Option<AlignContent>,
 }
 
-// A number from 0 to the limit.
-pub fn read_size(word: &str) -> Option<f32> {
-    match read_decimal(word) {
-        Some(x) => { if number::in_limits(x) { Some(x) } else { None } }
-        None => None,
-    }
-}
-
 // One to four numbers as CSS reads them: all sides; top and bottom, left and right; top, left and right, bottom; top, right, bottom, left.
-fn read_sides(value: &str) -> Option<Rect<f32>> {
+fn read_sides(value: &str) -> Option<Rect<f32>>
+    ensures { λ r. ⌜ found r Sides-in-range ⌝ }
+{
     let mut words = value.split_whitespace();
     let top = read_size(words.next()?)?;
     let right = match words.next() {
@@ -63,7 +61,9 @@ fn read_sides(value: &str) -> Option<Rect<f32>> {
 }
 
 // A keyword, with an overflow position before it where that is allowed. `normal` says nothing of how tracks are aligned.
-fn read_track_alignment(value: &str) -> Option<AlignContent> {
+fn read_track_alignment(value: &str) -> Option<AlignContent>
+    ensures { λ r. ⌜ found r Aligns ⌝ }
+{
     let mut words = value.split_whitespace();
     let first = words.next()?;
     let second = words.next();
@@ -91,11 +91,10 @@ fn read_track_alignment(value: &str) -> Option<AlignContent> {
 }
 
 // Fills a place that is empty.
-fn fill<T: Drop>(
-    place: &mut Option<T>,
-    read: Option<T>,
-    expected: Expected,
-) -> Result<(), Expected> {
+fn fill<T: Drop>(place: &mut Option<T>, read: Option<T>, expected: Expected) -> Result<(), Expected>
+    ensures place { λ _. ⌜ now (place .exit) ≡ filled (now (place .entry)) read ⌝ }
+    ensures answer { λ r. ⌜ r ≡ filling (now (place .entry)) read expected ⌝ }
+{
     match read {
         None => Err(expected),
         Some(value) => {
@@ -109,7 +108,7 @@ fn fill<T: Drop>(
 }
 
 impl ContainerText {
-    pub const EMPTY: ContainerText = ContainerText {
+    pub(crate) const EMPTY: ContainerText = ContainerText {
         width: None,
         height: None,
         padding: None,
@@ -119,11 +118,10 @@ impl ContainerText {
         align_content: None,
     };
 
-    // Takes one declaration, `property: value`.
-    pub fn declare(&mut self, property: &str, value: &str) -> Result<(), Expected> {
-        let Some(property) = property_named(property) else {
-            return Err(Expected::Property);
-        };
+    // Takes the value of one property.
+    fn take(&mut self, property: Property, value: &str) -> Result<(), Expected>
+        ensures { λ r. ⌜ Takes property (now (value .entry)) (now (self .entry)) (now (self .exit)) r ⌝ }
+    {
         match property {
             Property::Width => fill(&mut self.width, read_size(value), Expected::Size),
             Property::Height => fill(&mut self.height, read_size(value), Expected::Size),
@@ -134,25 +132,34 @@ impl ContainerText {
                 direction_named(value),
                 Expected::Direction,
             ),
-            Property::JustifyContent => {
-                fill(
-                    &mut self.justify_content,
-                    read_track_alignment(value),
-                    Expected::TrackAlignment,
-                )
-            }
-            Property::AlignContent => {
-                fill(
-                    &mut self.align_content,
-                    read_track_alignment(value),
-                    Expected::TrackAlignment,
-                )
-            }
+            Property::JustifyContent => fill(
+                &mut self.justify_content,
+                read_track_alignment(value),
+                Expected::TrackAlignment,
+            ),
+            Property::AlignContent => fill(
+                &mut self.align_content,
+                read_track_alignment(value),
+                Expected::TrackAlignment,
+            ),
+        }
+    }
+
+    // Takes one declaration, `property: value`.
+    pub(crate) fn declare(&mut self, property: &str, value: &str) -> Result<(), Expected>
+        ensures taken { λ r. ⌜ Declares (meaning-of (now (property .entry)) properties) (now (value .entry)) (now (self .entry)) (now (self .exit)) r ⌝ }
+        ensures range { λ _. ⌜ (Text-in-range (now (self .entry)) → Text-in-range (now (self .exit))) ⌝ }
+    {
+        match property_named(property) {
+            Some(named) => self.take(named, value),
+            None => Err(Expected::Property),
         }
     }
 
     // The container, once its size is known. What was not said is CSS's initial value; `normal` behaves as `stretch`.
-    pub fn finish(self) -> Result<ContainerDescription, Expected> {
+    pub(crate) fn finish(self) -> Result<ContainerDescription, Expected>
+        ensures { λ r. ⌜ r ≡ container-finished self ⌝ }
+    {
         let Some(width) = self.width else {
             return Err(Expected::Width);
         };

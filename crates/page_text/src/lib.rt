@@ -1,10 +1,8 @@
-// The description of a page as text: how it is read, and the report on how its tracks are aligned.
+// The description of a page as text: how it is read, and how the tracks of its axes are aligned.
 pub mod axis_alignment;
-pub mod axis_report;
-pub mod container_text;
-pub mod decimal;
-pub mod keyword;
+mod container_text;
+pub mod laws;
 pub mod page_description;
 pub mod read_error;
 pub mod reader;
-pub mod track_text;
+mod track_text;

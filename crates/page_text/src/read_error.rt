@@ -1,6 +1,8 @@
 // Why a page description cannot be read: the line, what was expected there, and what stands there.
 use std::alloc::Refused;
 use std::fmt;
+ghost use mathlib.Core.Path.{_≡_};
+ghost use Rattle.page_text.specs.declared.read_error.ReadFault.the-variants.{Unreadable, OutOfMemory};
 
 // What was expected.
 #[derive(Clone, Copy)]
@@ -89,12 +91,16 @@ pub enum ReadFault<'a> {
 }
 
 pub impl<'a> From<ReadError<'a>> for ReadFault<'a> as ReadErrorFault {
+    ghost converts = { λ e f. f ≡ Unreadable e };
+
     fn from(error: ReadError<'a>) -> ReadFault<'a> {
         ReadFault::Unreadable(error)
     }
 }
 
 pub impl<'a, T: Drop> From<Refused<T>> for ReadFault<'a> as RefusedFault {
+    ghost converts = { λ _ f. f ≡ OutOfMemory };
+
     fn from(_refused: Refused<T>) -> ReadFault<'a> {
         ReadFault::OutOfMemory
     }

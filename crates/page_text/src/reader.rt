@@ -10,6 +10,14 @@ use crate::track_text::MAX_TRACKS;
 use crate::track_text::read_track;
 use std::alloc::Global;
 use tracks::grid_track::GridTrack;
+ghost use mathlib.Core.Path.{_≡_};
+ghost use Prim.Native.Nat.{_≤_};
+ghost use Rattle.std.specs.Of.Vec.{vec-items};
+ghost use Rattle.std.specs.Vec.{refused};
+ghost use Rattle.std.specs.Results.{Cases};
+ghost use Rattle.page_text.specs.Containers.{Text-in-range};
+ghost use Rattle.page_text.specs.WrittenTracks.{Tracks-in-range};
+ghost use Rattle.page_text.specs.Pages.{draft-finished, Draft-in-range, Page-in-range, At-line, At-some-line};
 
 // What has been read so far.
 #[derive(Drop)]
@@ -24,7 +32,11 @@ fn read_tracks<'a>(
     line: usize,
     text: &'a str,
     tracks: &mut Vec<GridTrack>,
-) -> Result<(), ReadFault<'a>> {
+) -> Result<(), ReadFault<'a>>
+    requires { ⌜ Tracks-in-range (vec-items (now tracks)) ⌝ }
+    ensures range { λ _. ⌜ Tracks-in-range (vec-items (now (tracks .exit))) ⌝ }
+    ensures place { λ r. ⌜ refused r (At-line line) ⌝ }
+{
     for word in text.split_whitespace() {
         let Some(track) = read_track(word) else {
             return Err(ReadFault::from(ReadError {
@@ -50,7 +62,11 @@ fn read_declarations<'a>(
     line: usize,
     text: &'a str,
     container: &mut ContainerText,
-) -> Result<(), ReadError<'a>> {
+) -> Result<(), ReadError<'a>>
+    requires { ⌜ Text-in-range (now container) ⌝ }
+    ensures range { λ _. ⌜ Text-in-range (now (container .exit)) ⌝ }
+    ensures place { λ r. ⌜ refused r (λ e. e .line ≡ line) ⌝ }
+{
     for part in text.split(';') {
         let declaration = part.trim();
         if declaration.is_empty() {
@@ -76,12 +92,16 @@ fn read_declarations<'a>(
 }
 
 impl Draft {
-    fn read_line<'a>(&mut self, line: usize, text: &'a str) -> Result<(), ReadFault<'a>> {
+    fn read_line<'a>(&mut self, line: usize, text: &'a str) -> Result<(), ReadFault<'a>>
+        requires { ⌜ Draft-in-range (now self) ⌝ }
+        ensures range { λ _. ⌜ Draft-in-range (now (self .exit)) ⌝ }
+        ensures place { λ r. ⌜ refused r (At-line line) ⌝ }
+    {
         let said = match text.split_once('#') {
             Some((before, _)) => before.trim(),
             None => text.trim(),
         };
-        let (statement, rest) = match said.split_once(' ') {
+        let (statement, rest) = match said.split_once([' ', '\t']) {
             Some(parts) => parts,
             None => (said, ""),
         };
@@ -99,7 +119,9 @@ impl Draft {
     }
 
     // The page, once nothing more comes.
-    fn finish(self) -> Result<PageDescription, Expected> {
+    fn finish(self) -> Result<PageDescription, Expected>
+        ensures { λ r. ⌜ r ≡ draft-finished self ⌝ }
+    {
         let Draft {
             container,
             columns,
@@ -127,7 +149,9 @@ impl Draft {
 }
 
 // The line, counted from 1, in which a byte stands.
-fn line_of(input: &[u8], at: usize) -> usize {
+fn line_of(input: &[u8], at: usize) -> usize
+    ensures { λ r. ⌜ 1 ≤ r ⌝ }
+{
     let mut line = 1usize;
     for (i, byte) in input.iter().enumerate() {
         if i < at && *byte == b'\n' {
@@ -138,7 +162,9 @@ fn line_of(input: &[u8], at: usize) -> usize {
 }
 
 // Reads the description of a page from any bytes.
-pub fn read_page(heap: Global, input: &[u8]) -> Result<PageDescription, ReadFault<'_>> {
+pub fn read_page(heap: Global, input: &[u8]) -> Result<PageDescription, ReadFault<'_>>
+    ensures { λ r. ⌜ Cases r Page-in-range At-some-line ⌝ }
+{
     let text = match std::str::from_utf8(input) {
         Ok(text) => text,
         Err(error) => {

@@ -1,8 +1,8 @@
 // The program: reads the description of a result page and says where everything on it stands.
 use geometry::AbsoluteAxis;
+use page_report::axis_report::AxisReport;
+use page_report::axis_report::AxisReportDisplay;
 use page_text::axis_alignment::align_axis;
-use page_text::axis_report::AxisReport;
-use page_text::axis_report::AxisReportDisplay;
 use page_text::page_description::PageDescription;
 use page_text::read_error::ReadErrorDisplay;
 use page_text::read_error::ReadFault;

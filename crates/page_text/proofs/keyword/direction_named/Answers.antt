@@ -1,6 +1,0 @@
-use lib.Chars.{codes}
-use Rattle.page_text.proofs.Names.{other}
-use Rattle.page_text.proofs.keyword.direction_named.Needs as need
-
-pub returns-in-rest : need.returns-in-rest
-returns-in-rest c = simp (other _ (codes "ltr") (c .in-rest .not-ltr), other _ (codes "rtl") (c .in-rest .not-rtl))
