@@ -1,0 +1,3 @@
+// A host that answers by tables of records.
+pub mod host;
+pub mod records;
