@@ -1,1 +1,3 @@
-// A host that computes.
+// A host of texts: it computes how each breaks into lines.
+pub mod host;
+pub mod text;
