@@ -42,11 +42,15 @@ InOrder h = Unit {0}
 abbrev pub node-record : Tables → ℕ → Option NodeRecord
 node-record t = held-at (λ r. r .node) (t .nodes)
 
+abbrev pub calc-at : Tables → ℕ → Float → Option Float
+calc-at t handle basis = mapped (λ r. r .number) (first-that (calc-for handle basis) (t .calcs))
+
+-- a calculation without a record is 0
 abbrev pub recorded-means : Tables → Means
 recorded-means t = record {
   has = λ n. isSome (node-record t n);
   styles = λ n. flattened (mapped (λ r. r .style) (node-record t n));
-  calculates = λ handle basis. valueOr (mapped (λ r. r .number) (first-that (calc-for handle basis) (t .calcs))) (ofBits binary32 0);
+  calculates = λ handle basis. valueOr (calc-at t handle basis) (ofBits binary32 0);
   sizes = λ q. mapped (λ r. r .size) (first-that (measurement-for q) (t .measurements));
   outputs = λ q. mapped (λ r. r .output) (first-that (layout-for q) (t .layouts));
   candidates = λ q i. mapped (λ r. r .candidate) (first-that (candidate-for q i) (t .candidates));

@@ -1,12 +1,12 @@
 -- A search from the front, step by step.
 use mathlib.Core.Path.{_≡_, refl, sym, ap, subst, _∙_}
 use mathlib.Core.Bool.{Bool, true, false, cond}
-use mathlib.Core.List.{List, [], _∷_}
+use mathlib.Core.List.{List, [], _∷_, _++_}
 use Prim.Native.Nat.{ℕ, suc, suc-le-suc, _+_, _<_, _≤_}
 use native.Mathlib.Omega.{arith}
 use lib.ListN.{length, drop, getD, set}
 use Rattle.std.proofs.shelf.Lists.{at-drop-more, at-drop-all}
-use Rattle.std.specs.Options.{mapped}
+use Rattle.std.specs.Options.{mapped, orOther, whenTrue}
 use Rattle.std.specs.declared.option.Option.{Option}
 use Rattle.std.specs.declared.option.Option.the-variants.{Some, None}
 use Rattle.tables.specs.First.{first-that, first-place}
@@ -27,17 +27,18 @@ module _ {A : Type 0} (test : A → Bool) where
       go None = refl
       go (Some k) = let e : k + 0 ≡ k = omega arith in ap (λ n. Some n) e
 
-  pub place-missed : (xs : List A) (i : ℕ) (d : A) → i < length xs → test (getD xs i d) ≡ false → place-from test i (drop i xs) ≡ place-from test (i + 1) (drop (i + 1) xs)
-  place-missed xs i d h n =
-      at-drop-more (place-from test i) xs i d h
-      ∙ ap (λ b. mapped (λ k. k + i) (cond b (Some 0) (mapped (λ k. k + 1) (first-place test (drop (i + 1) xs))))) n
+  -- the element x stands at i
+  pub place-missed : (xs : List A) (i : ℕ) (x : A) → i < length xs → x ≡ getD xs i x → false ≡ test x → place-from test i (drop i xs) ≡ place-from test (i + 1) (drop (i + 1) xs)
+  place-missed xs i x h is n =
+      at-drop-more (place-from test i) xs i x h
+      ∙ ap (λ b. mapped (λ k. k + i) (cond b (Some 0) (mapped (λ k. k + 1) (first-place test (drop (i + 1) xs))))) (ap test (sym is) ∙ sym n)
       ∙ later (first-place test (drop (i + 1) xs)) i
 
-  pub place-hit : (xs : List A) (i : ℕ) (d : A) → i < length xs → test (getD xs i d) ≡ true → place-from test i (drop i xs) ≡ Some i
-  place-hit xs i d h n =
+  pub place-hit : (xs : List A) (i : ℕ) (x : A) → i < length xs → x ≡ getD xs i x → true ≡ test x → place-from test i (drop i xs) ≡ Some i
+  place-hit xs i x h is n =
       let e : 0 + i ≡ i = omega arith in
-      at-drop-more (place-from test i) xs i d h
-      ∙ ap (λ b. mapped (λ k. k + i) (cond b (Some 0) (mapped (λ k. k + 1) (first-place test (drop (i + 1) xs))))) n
+      at-drop-more (place-from test i) xs i x h
+      ∙ ap (λ b. mapped (λ k. k + i) (cond b (Some 0) (mapped (λ k. k + 1) (first-place test (drop (i + 1) xs))))) (ap test (sym is) ∙ sym n)
       ∙ ap (λ k. Some k) e
 
   pub place-ended : (xs : List A) (i : ℕ) → length xs ≤ i → place-from test i (drop i xs) ≡ None
@@ -89,3 +90,16 @@ module _ {A : Type 0} (test : A → Bool) where
       go true t o p e rest = let z : _≡_ {A = ℕ} 0 1 = cc in absurd (omega arith)
       go false t None p e rest = ap (λ b. cond b (Some x) (first-that test xs)) t ∙ rest p
       go false t (Some j) p e rest = let z : _≡_ {A = ℕ} 0 1 = cc in absurd (omega arith)
+
+-- one more at the end counts where none before it passes
+pub first-added : {A B : Type 0} (test : A → Bool) (f : A → B) (xs : List A) (y : A) → mapped f (first-that test (xs ++ y ∷ [])) ≡ orOther (mapped f (first-that test xs)) (whenTrue (test y) (f y))
+first-added test f [] y = go (test y)
+  where
+    go : (b : Bool) → mapped f (cond b (Some y) None) ≡ whenTrue b (f y)
+    go true = refl
+    go false = refl
+first-added test f (x ∷ xs) y = go (test x) (first-added test f xs y)
+  where
+    go : (b : Bool) → mapped f (first-that test (xs ++ y ∷ [])) ≡ orOther (mapped f (first-that test xs)) (whenTrue (test y) (f y)) → mapped f (cond b (Some x) (first-that test (xs ++ y ∷ []))) ≡ orOther (mapped f (cond b (Some x) (first-that test xs))) (whenTrue (test y) (f y))
+    go true rest = refl
+    go false rest = rest

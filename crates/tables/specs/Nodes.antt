@@ -4,7 +4,7 @@ use lib.Dec.{eqb}
 use mathlib.Core.Bool.{cond}
 use mathlib.Core.List.{List}
 use Rattle.std.specs.Of.Vec.{vec-items}
-use Rattle.std.specs.Options.{isSome, mapped}
+use Rattle.std.specs.Options.{isSome, mapped, flattened}
 use Rattle.std.specs.declared.option.Option.{Option}
 use Rattle.std.specs.declared.option.Option.the-variants.{None, Some}
 use Rattle.tree.specs.declared.layout.Layout.{Layout}
@@ -19,24 +19,16 @@ slots-of t = vec-items (t .slots)
 abbrev pub new-slot : {R : Type 0} → R → Slot R
 new-slot r = record { held = r; layout = None }
 
-abbrev pub held-in : {R : Type 0} → Option (Slot R) → Option R
-held-in None = None
-held-in (Some s) = Some (s .held)
-
-abbrev pub layout-in : {R : Type 0} → Option (Slot R) → Option Layout
-layout-in None = None
-layout-in (Some s) = s .layout
-
 module _ {R : Type 0} (names : R → ℕ) (slots : List (Slot R)) where
   -- a node's first record counts
   abbrev pub slot-at : ℕ → Option (Slot R)
   slot-at n = first-that (λ s. eqb (names (s .held)) n) slots
 
   abbrev pub held-at : ℕ → Option R
-  held-at n = held-in (slot-at n)
+  held-at n = mapped (λ s. s .held) (slot-at n)
 
   abbrev pub layout-at : ℕ → Option Layout
-  layout-at n = layout-in (slot-at n)
+  layout-at n = flattened (mapped (λ s. s .layout) (slot-at n))
 
   -- the layouts once one is stored: a known node's is replaced, and for an unknown node nothing changes
   abbrev pub layouts-with : ℕ → Layout → ℕ → Option Layout

@@ -70,7 +70,8 @@ impl TextRecord {
 
     // The whole cells in a width, but no fewer than the longest word has, and no more than all letters.
     fn columns_in(&self, width: f32) -> u32
-        ensures { λ r. ⌜ r ≡ columns-in (now (self .entry)) width ⌝ }
+        ensures value { λ r. ⌜ r ≡ columns-in (now (self .entry)) width ⌝ }
+        ensures held { λ r. ⌜ (in-bounds (now (self .entry)) ≡ true → between (now (self .entry) .«longest_word») (now (self .entry) .letters) r ≡ true) ⌝ }
     {
         let cells = saturating_f32_to_u32(width / nearest_u32_to_f32(self.cell_width));
         cells.min(self.letters).max(self.longest_word)
@@ -78,7 +79,8 @@ impl TextRecord {
 
     // The letters in a line: by the known width, or else by the available one.
     pub fn columns(&self, known: Option<f32>, available: AvailableSpace) -> u32
-        ensures { λ r. ⌜ r ≡ columns-for (now (self .entry)) known available ⌝ }
+        ensures value { λ r. ⌜ r ≡ columns-for (now (self .entry)) known available ⌝ }
+        ensures held { λ r. ⌜ (in-bounds (now (self .entry)) ≡ true → between (now (self .entry) .«longest_word») (now (self .entry) .letters) r ≡ true) ⌝ }
     {
         match (known, available) {
             (Some(width), _) => self.columns_in(width),
