@@ -1,0 +1,4 @@
+// A host that answers by tables of records.
+pub mod host;
+pub mod laws;
+pub mod records;
