@@ -37,7 +37,10 @@ fn hold(max: Option<SideLength>, min: f32, length: f32) -> f32
 fn fill(known: Size<Option<f32>>, size: Size<f32>) -> Size<f32>
     ensures { λ r. ⌜ r ≡ filled known size ⌝ }
 {
-    Size { width: known.width.unwrap_or(size.width), height: known.height.unwrap_or(size.height) }
+    Size {
+        width: known.width.unwrap_or(size.width),
+        height: known.height.unwrap_or(size.height),
+    }
 }
 
 impl SizingItem {
@@ -83,7 +86,11 @@ impl SizingItem {
     {
         Size {
             width: hold(self.max_width(), self.limits.width.min.border, size.width),
-            height: hold(self.max_height(), self.limits.height.min.border, size.height),
+            height: hold(
+                self.max_height(),
+                self.limits.height.min.border,
+                size.height,
+            ),
         }
     }
 
@@ -93,21 +100,36 @@ impl SizingItem {
         self.is_out_of_flow && (known.width.is_none() || known.height.is_none())
     }
 
-    fn lay_out_with<H: LayoutPartialTree>(self, host: &mut H, known: Size<Option<f32>>) -> Result<LaidOutItem, ItemFault>
+    fn lay_out_with<H: LayoutPartialTree>(
+        self,
+        host: &mut H,
+        known: Size<Option<f32>>,
+    ) -> Result<LaidOutItem, ItemFault>
         requires { ⌜ ordered (now host) ⌝ }
         ensures finds { λ r. ⌜ Finds (laid-out-with (meaning (now (host .entry)) .means) self known) r (meaning (now (host .entry))) (meaning (now (host .exit))) (tallied (now (host .entry))) (tallied (now (host .exit))) ⌝ }
         ensures order { λ _. ⌜ ordered (now (host .exit)) ⌝ }
     {
         if self.wants_measuring(known) {
             let measured = measure(host, self.whole_question(known))?;
-            let both = Size { width: Some(measured.width), height: Some(measured.height) };
+            let both = Size {
+                width: Some(measured.width),
+                height: Some(measured.height),
+            };
             let question = self.whole_question(both);
             let output = perform_layout(host, question)?;
-            Ok(LaidOutItem { size: self.answered(measured), output, question })
+            Ok(LaidOutItem {
+                size: self.answered(measured),
+                output,
+                question,
+            })
         } else {
             let question = self.whole_question(known);
             let output = perform_layout(host, question)?;
-            Ok(LaidOutItem { size: fill(known, self.answered(output.size)), output, question })
+            Ok(LaidOutItem {
+                size: fill(known, self.answered(output.size)),
+                output,
+                question,
+            })
         }
     }
 

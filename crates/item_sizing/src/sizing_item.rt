@@ -34,7 +34,10 @@ impl SizingItem {
         Question {
             node: self.node,
             known_dimensions,
-            parent_size: Size { width: Some(self.basis.width), height: Some(self.basis.height) },
+            parent_size: Size {
+                width: Some(self.basis.width),
+                height: Some(self.basis.height),
+            },
             available_space,
             sizing_mode: SizingMode::InherentSize,
             axis,
@@ -56,17 +59,40 @@ impl SizingItem {
     {
         let (height, axis) = match self.height_along() {
             Some(height) => (height, RequestedAxis::Both),
-            None => (AvailableSpace::Definite(self.space.height), RequestedAxis::Horizontal),
+            None => (
+                AvailableSpace::Definite(self.space.height),
+                RequestedAxis::Horizontal,
+            ),
         };
-        let known = Size { width: None, height: None };
-        self.question(known, Size { width: space, height }, axis)
+        let known = Size {
+            width: None,
+            height: None,
+        };
+        self.question(
+            known,
+            Size {
+                width: space,
+                height,
+            },
+            axis,
+        )
     }
 
     pub(crate) fn height_question(self, width: Option<f32>, space: AvailableSpace) -> Question
         ensures { λ r. ⌜ r ≡ height-question self width space ⌝ }
     {
         let room = AvailableSpace::Definite(width.unwrap_or(self.space.width));
-        let known = Size { width, height: None };
-        self.question(known, Size { width: room, height: space }, RequestedAxis::Vertical)
+        let known = Size {
+            width,
+            height: None,
+        };
+        self.question(
+            known,
+            Size {
+                width: room,
+                height: space,
+            },
+            RequestedAxis::Vertical,
+        )
     }
 }

@@ -59,20 +59,33 @@ impl SizingItem {
         let limits = self.limits.width;
         match self.sizing.width {
             SideSizing::Given(w) | SideSizing::Stretched(w) | SideSizing::Filled(w) => {
-                Ok(UsedWidth { width: Some(used_length(limits, w)), height_along: None })
+                Ok(UsedWidth {
+                    width: Some(used_length(limits, w)),
+                    height_along: None,
+                })
             }
             SideSizing::Content(space) => {
                 let size = measure(host, self.width_question(space))?;
                 let width = measured_length(limits, size.width);
                 let still_holds = self.height_along().is_some() && size.width == width;
                 let height_along = if still_holds { Some(size.height) } else { None };
-                Ok(UsedWidth { width: Some(width), height_along })
+                Ok(UsedWidth {
+                    width: Some(width),
+                    height_along,
+                })
             }
-            SideSizing::Free => Ok(UsedWidth { width: None, height_along: None }),
+            SideSizing::Free => Ok(UsedWidth {
+                width: None,
+                height_along: None,
+            }),
         }
     }
 
-    fn used_height<H: LayoutPartialTree>(self, host: &mut H, width: UsedWidth) -> Result<Option<f32>, ItemFault>
+    fn used_height<H: LayoutPartialTree>(
+        self,
+        host: &mut H,
+        width: UsedWidth,
+    ) -> Result<Option<f32>, ItemFault>
         requires { ⌜ ordered (now host) ⌝ }
         ensures finds { λ r. ⌜ Finds (used-height (meaning (now (host .entry)) .means) self width) r (meaning (now (host .entry))) (meaning (now (host .exit))) (tallied (now (host .entry))) (tallied (now (host .exit))) ⌝ }
         ensures order { λ _. ⌜ ordered (now (host .exit)) ⌝ }
@@ -93,14 +106,20 @@ impl SizingItem {
         }
     }
 
-    fn sizes_by_axis<H: LayoutPartialTree>(self, host: &mut H) -> Result<Size<Option<f32>>, ItemFault>
+    fn sizes_by_axis<H: LayoutPartialTree>(
+        self,
+        host: &mut H,
+    ) -> Result<Size<Option<f32>>, ItemFault>
         requires { ⌜ ordered (now host) ⌝ }
         ensures finds { λ r. ⌜ Finds (sizes-by-axis (meaning (now (host .entry)) .means) self) r (meaning (now (host .entry))) (meaning (now (host .exit))) (tallied (now (host .entry))) (tallied (now (host .exit))) ⌝ }
         ensures order { λ _. ⌜ ordered (now (host .exit)) ⌝ }
     {
         let width = self.used_width(host)?;
         let height = self.used_height(host, width)?;
-        Ok(Size { width: width.width, height })
+        Ok(Size {
+            width: width.width,
+            height,
+        })
     }
 
     // Where the box comes from.
@@ -131,7 +150,11 @@ impl SizingItem {
         }
     }
 
-    fn ratio_box<H: LayoutPartialTree>(self, host: &mut H, ratio: AspectRatio) -> Result<Option<Size<SideLength>>, ItemFault>
+    fn ratio_box<H: LayoutPartialTree>(
+        self,
+        host: &mut H,
+        ratio: AspectRatio,
+    ) -> Result<Option<Size<SideLength>>, ItemFault>
         requires { ⌜ ordered (now host) ⌝ }
         ensures finds { λ r. ⌜ Finds (ratio-box (meaning (now (host .entry)) .means) self ratio) r (meaning (now (host .entry))) (meaning (now (host .exit))) (tallied (now (host .entry))) (tallied (now (host .exit))) ⌝ }
         ensures order { λ _. ⌜ ordered (now (host .exit)) ⌝ }
@@ -152,7 +175,11 @@ impl SizingItem {
         }
     }
 
-    fn sizes_by_ratio<H: LayoutPartialTree>(self, host: &mut H, ratio: f32) -> Result<Size<Option<f32>>, ItemFault>
+    fn sizes_by_ratio<H: LayoutPartialTree>(
+        self,
+        host: &mut H,
+        ratio: f32,
+    ) -> Result<Size<Option<f32>>, ItemFault>
         requires { ⌜ ordered (now host) ⌝ }
         ensures finds { λ r. ⌜ Finds (sizes-by-ratio (meaning (now (host .entry)) .means) self ratio) r (meaning (now (host .entry))) (meaning (now (host .exit))) (tallied (now (host .entry))) (tallied (now (host .exit))) ⌝ }
         ensures order { λ _. ⌜ ordered (now (host .exit)) ⌝ }
@@ -167,10 +194,16 @@ impl SizingItem {
             SideSizing::Given(h) | SideSizing::Stretched(h) => Some(h),
             _ => boxed_height,
         };
-        Ok(Size { width: used_if_any(limits.width, width), height: used_if_any(limits.height, height) })
+        Ok(Size {
+            width: used_if_any(limits.width, width),
+            height: used_if_any(limits.height, height),
+        })
     }
 
-    pub(crate) fn used_sizes<H: LayoutPartialTree>(self, host: &mut H) -> Result<Size<Option<f32>>, ItemFault>
+    pub(crate) fn used_sizes<H: LayoutPartialTree>(
+        self,
+        host: &mut H,
+    ) -> Result<Size<Option<f32>>, ItemFault>
         requires { ⌜ ordered (now host) ⌝ }
         ensures finds { λ r. ⌜ Finds (used-sizes (meaning (now (host .entry)) .means) self) r (meaning (now (host .entry))) (meaning (now (host .exit))) (tallied (now (host .entry))) (tallied (now (host .exit))) ⌝ }
         ensures order { λ _. ⌜ ordered (now (host .exit)) ⌝ }
