@@ -1,13 +1,16 @@
 -- A page as it is read: what makes it whole, and the range of its numbers.
 use mathlib.Core.Path.{_≡_}
 use mathlib.Core.Bool.{cond}
+use mathlib.Core.List.{List}
 use Prim.Native.Nat.{ℕ, _%_, _≤_}
+use lib.Chars.{codes}
 use lib.Dec.{eqb}
 use Rattle.std.specs.Of.Vec.{vec-len, vec-items}
+use Rattle.std.specs.Vec.{made}
 use Rattle.std.specs.declared.result.Result.{Result}
 use Rattle.std.specs.declared.result.Result.the-variants.{Ok, Err}
 use Rattle.page_text.specs.Containers.{container-finished, Text-in-range, Container-in-range}
-use Rattle.page_text.specs.WrittenTracks.{Tracks-in-range}
+use Rattle.page_text.specs.WrittenTracks.{Tracks-in-range, Goes-on}
 use Rattle.page_text.specs.declared.page_description.ContainerDescription.{ContainerDescription}
 use Rattle.page_text.specs.declared.page_description.PageDescription.{PageDescription}
 use Rattle.page_text.specs.declared.read_error.Expected.{Expected}
@@ -16,6 +19,17 @@ use Rattle.page_text.specs.declared.read_error.ReadError.{ReadError}
 use Rattle.page_text.specs.declared.read_error.ReadFault.{ReadFault}
 use Rattle.page_text.specs.declared.read_error.ReadFault.the-variants.{Unreadable, OutOfMemory}
 use Rattle.page_text.specs.declared.reader.Draft.{Draft}
+
+-- ---- a statement
+
+-- the statement of a line, with the rest of the line, made e of the draft d, and r is the answer: it changes what it names, and no other part
+pub record Stated (statement rest : List ℕ) (d e : Draft) (r : Result (Unit {0}) ReadFault) : Type 0 where
+  pub container-alone : statement ≡ codes "container" → (e .columns ≡ d .columns) × (e .rows ≡ d .rows)
+  pub columns-alone : statement ≡ codes "columns" → (e .container ≡ d .container) × (e .rows ≡ d .rows)
+  pub rows-alone : statement ≡ codes "rows" → (e .container ≡ d .container) × (e .columns ≡ d .columns)
+  pub columns-go-on : statement ≡ codes "columns" → made r (λ _. Goes-on rest (vec-items (d .columns)) (vec-items (e .columns)))
+  pub rows-go-on : statement ≡ codes "rows" → made r (λ _. Goes-on rest (vec-items (d .rows)) (vec-items (e .rows)))
+  pub nothing-else : (statement ≡ codes "container" → ⊥) → (statement ≡ codes "columns" → ⊥) → (statement ≡ codes "rows" → ⊥) → e ≡ d
 
 -- ---- the end of the description
 

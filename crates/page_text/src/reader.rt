@@ -12,12 +12,13 @@ use std::alloc::Global;
 use tracks::grid_track::GridTrack;
 ghost use mathlib.Core.Path.{_≡_};
 ghost use Prim.Native.Nat.{_≤_};
-ghost use Rattle.std.specs.Of.Vec.{vec-items};
-ghost use Rattle.std.specs.Vec.{refused};
+ghost use lib.Dec.{ltb};
+ghost use Rattle.std.specs.Of.Vec.{vec-items, vec-len};
+ghost use Rattle.std.specs.Vec.{made, refused};
 ghost use Rattle.std.specs.Results.{Cases};
 ghost use Rattle.page_text.specs.Containers.{Text-in-range};
-ghost use Rattle.page_text.specs.WrittenTracks.{Tracks-in-range};
-ghost use Rattle.page_text.specs.Pages.{draft-finished, Draft-in-range, Page-in-range, At-line, At-some-line};
+ghost use Rattle.page_text.specs.WrittenTracks.{Tracks-in-range, Goes-on};
+ghost use Rattle.page_text.specs.Pages.{Stated, draft-finished, Draft-in-range, Page-in-range, At-line, At-some-line};
 
 // What has been read so far.
 #[derive(Drop)]
@@ -27,6 +28,13 @@ struct Draft {
     rows: Vec<GridTrack>,
 }
 
+// Whether an axis may have one track more.
+fn has_room(tracks: &Vec<GridTrack>) -> bool
+    ensures { λ r. ⌜ r ≡ ltb (vec-len (now (tracks .entry))) 513 ⌝ }
+{
+    tracks.len() < MAX_TRACKS
+}
+
 // Adds the tracks of one line to those of its axis.
 fn read_tracks<'a>(
     line: usize,
@@ -34,6 +42,7 @@ fn read_tracks<'a>(
     tracks: &mut Vec<GridTrack>,
 ) -> Result<(), ReadFault<'a>>
     requires { ⌜ Tracks-in-range (vec-items (now tracks)) ⌝ }
+    ensures added { λ r. ⌜ made r (λ _. Goes-on (now (text .entry)) (vec-items (now (tracks .entry))) (vec-items (now (tracks .exit)))) ⌝ }
     ensures range { λ _. ⌜ Tracks-in-range (vec-items (now (tracks .exit))) ⌝ }
     ensures place { λ r. ⌜ refused r (At-line line) ⌝ }
 {
@@ -45,7 +54,7 @@ fn read_tracks<'a>(
                 found: word,
             }));
         };
-        if tracks.len() >= MAX_TRACKS {
+        if !has_room(tracks) {
             return Err(ReadFault::from(ReadError {
                 line,
                 expected: Expected::FreeTrack,
@@ -92,19 +101,18 @@ fn read_declarations<'a>(
 }
 
 impl Draft {
-    fn read_line<'a>(&mut self, line: usize, text: &'a str) -> Result<(), ReadFault<'a>>
+    // Takes the statement of a line.
+    fn read_statement<'a>(
+        &mut self,
+        line: usize,
+        statement: &'a str,
+        rest: &'a str,
+    ) -> Result<(), ReadFault<'a>>
         requires { ⌜ Draft-in-range (now self) ⌝ }
+        ensures stated { λ r. ⌜ Stated (now (statement .entry)) (now (rest .entry)) (now (self .entry)) (now (self .exit)) r ⌝ }
         ensures range { λ _. ⌜ Draft-in-range (now (self .exit)) ⌝ }
         ensures place { λ r. ⌜ refused r (At-line line) ⌝ }
     {
-        let said = match text.split_once('#') {
-            Some((before, _)) => before.trim(),
-            None => text.trim(),
-        };
-        let (statement, rest) = match said.split_once([' ', '\t']) {
-            Some(parts) => parts,
-            None => (said, ""),
-        };
         match statement {
             "" => Ok(()),
             "container" => Ok(read_declarations(line, rest, &mut self.container)?),
@@ -115,6 +123,22 @@ impl Draft {
                 expected: Expected::Statement,
                 found: statement,
             })),
+        }
+    }
+
+    // Takes a line: what stands before `#`, its first word and the rest.
+    fn read_line<'a>(&mut self, line: usize, text: &'a str) -> Result<(), ReadFault<'a>>
+        requires { ⌜ Draft-in-range (now self) ⌝ }
+        ensures range { λ _. ⌜ Draft-in-range (now (self .exit)) ⌝ }
+        ensures place { λ r. ⌜ refused r (At-line line) ⌝ }
+    {
+        let said = match text.split_once('#') {
+            Some((before, _)) => before.trim(),
+            None => text.trim(),
+        };
+        match said.split_once([' ', '\t']) {
+            Some((statement, rest)) => self.read_statement(line, statement, rest),
+            None => self.read_statement(line, said, ""),
         }
     }
 
