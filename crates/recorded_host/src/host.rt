@@ -25,9 +25,10 @@ use tree::question::Question;
 use tree::traits::LayoutGridContainer;
 use tree::traits::LayoutPartialTree;
 ghost use mathlib.Core.Path.{_≡_};
-ghost use Rattle.std.specs.declared.option.Option.the-variants.{None};
+ghost use Rattle.std.specs.declared.option.Option.the-variants.{None, Some};
 ghost use Rattle.tables.specs.Added.{Added};
-ghost use Rattle.recorded_host.specs.Recorded.{InOrder, tables-of, no-tables, with-node, with-measurement, with-layout, with-candidate, with-calc, recorded};
+ghost use Rattle.tree.specs.Meaning.{answers};
+ghost use Rattle.recorded_host.specs.Recorded.{InOrder, tables-of, no-tables, with-node, with-measurement, with-layout, with-candidate, with-calc, recorded, recorded-means};
 
 #[derive(Drop)]
 pub struct RecordedHost {
@@ -93,6 +94,14 @@ impl RecordedHost {
     {
         self.calcs.push(calc)
     }
+
+    // The node that is asked about is one of the host's.
+    fn known(&self, question: Question) -> Result<(), HostFault>
+        ensures { λ r. ⌜ r ≡ answers (recorded-means (tables-of (now (self .entry)))) (question .node) (Some question) (Some tt) ⌝ }
+    {
+        self.nodes.record(question.node, Some(question))?;
+        Ok(())
+    }
 }
 
 pub impl LayoutPartialTree for RecordedHost as RecordedTree {
@@ -103,7 +112,7 @@ pub impl LayoutPartialTree for RecordedHost as RecordedTree {
     ghost tallied = { λ _. None };
 
     fn measure(&mut self, question: Question) -> Result<Size<f32>, HostFault> {
-        self.nodes.record(question.node, Some(question))?;
+        self.known(question)?;
         match find(&self.measurements, &question) {
             Some(found) => Ok(found.size),
             None => Err(no_answer(question.node, Some(question))),
@@ -111,7 +120,7 @@ pub impl LayoutPartialTree for RecordedHost as RecordedTree {
     }
 
     fn perform_layout(&mut self, question: Question) -> Result<LayoutOutput, HostFault> {
-        self.nodes.record(question.node, Some(question))?;
+        self.known(question)?;
         match find(&self.layouts, &question) {
             Some(found) => Ok(found.output),
             None => Err(no_answer(question.node, Some(question))),
@@ -123,7 +132,7 @@ pub impl LayoutPartialTree for RecordedHost as RecordedTree {
         question: Question,
         index: u32,
     ) -> Result<OofCandidate, HostFault> {
-        self.nodes.record(question.node, Some(question))?;
+        self.known(question)?;
         match find(&self.candidates, &(question, index)) {
             Some(found) => Ok(found.candidate),
             None => Err(no_answer(question.node, Some(question))),

@@ -2,3 +2,5 @@
 pub mod host;
 pub mod laws;
 pub mod records;
+#[cfg(test)]
+mod tests;

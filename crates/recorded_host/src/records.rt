@@ -50,8 +50,8 @@ pub struct LayoutRecord {
 pub impl Keyed<Question> for LayoutRecord as LayoutKeyed {
     ghost fits = { λ r q. layout-for q r };
 
-    fn is_for(&self, question: &Question) -> bool {
-        answers_for(self.question, *question)
+    fn is_for(&self, asked: &Question) -> bool {
+        answers_for(self.question, *asked)
     }
 }
 
