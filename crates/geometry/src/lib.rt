@@ -1,4 +1,6 @@
 // Sizes, points, lines and rectangles, written once for numbers, optional numbers and lengths.
+#![tactic(auto)]
+
 pub mod axes;
 pub mod points;
 pub mod rects;

@@ -7,6 +7,7 @@ ghost use Rattle.geometry.specs.Shapes.{sides, zip_rect};
 ghost use Rattle.geometry.specs.Holds.{union_of, SmallestAround};
 
 use crate::{AbsoluteAxis, Line, Rect, Size};
+use number::{f32_max, f32_min};
 use std::ops::Add;
 
 impl<T: Add<T> + Copy> Line<T> {
@@ -123,10 +124,10 @@ impl Rect<f32> {
         ensures { result ≡ union_of self other }
     {
         Rect {
-            left: self.left.min(other.left),
-            right: self.right.max(other.right),
-            top: self.top.min(other.top),
-            bottom: self.bottom.max(other.bottom),
+            left: f32_min(self.left, other.left),
+            right: f32_max(self.right, other.right),
+            top: f32_min(self.top, other.top),
+            bottom: f32_max(self.bottom, other.bottom),
         }
     }
     // The smallest rectangle that holds both.

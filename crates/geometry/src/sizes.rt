@@ -7,6 +7,7 @@ ghost use Rattle.std.specs.Option.{unwrap_or, option_or};
 ghost use Rattle.geometry.specs.Shapes.{extent, zip_size, has_area, with_aspect_ratio};
 
 use crate::{AbsoluteAxis, Size};
+use number::{f32_max, f32_min};
 
 impl<T> Size<T> {
     // The width and the height exchanged.
@@ -70,8 +71,8 @@ impl Size<f32> {
         ensures { result ≡ zip_size Floats.float_max self rhs }
     {
         Size {
-            width: self.width.max(rhs.width),
-            height: self.height.max(rhs.height),
+            width: f32_max(self.width, rhs.width),
+            height: f32_max(self.height, rhs.height),
         }
     }
 
@@ -79,8 +80,8 @@ impl Size<f32> {
         ensures { result ≡ zip_size Floats.float_min self rhs }
     {
         Size {
-            width: self.width.min(rhs.width),
-            height: self.height.min(rhs.height),
+            width: f32_min(self.width, rhs.width),
+            height: f32_min(self.height, rhs.height),
         }
     }
 

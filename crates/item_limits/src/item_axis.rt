@@ -9,6 +9,7 @@ use crate::self_alignment::normal_fills;
 use crate::sizing_keyword::{SizingKeywordResolution, resolve_sizing_keyword};
 use geometry::{AbsoluteAxis, Line};
 use maybe_math::MaybeMath;
+use number::f32_max;
 use style::alignment::{AlignItems, AlignItemsKeyword, AlignmentSafety};
 use style::length::{AvailableSpace, Dimension};
 
@@ -70,7 +71,7 @@ impl ItemAxis {
         } else {
             inner
         };
-        left.max(0.0)
+        f32_max(left, 0.0)
     }
 
     // The area less the margins and, out of flow, the insets: the border box that fills it.

@@ -1,4 +1,6 @@
 // The sides of a grid item before its content is measured: their limits, the space that they may fill, and what each is to be.
+#![tactic(auto)]
+
 pub mod item_axis;
 pub mod limits;
 pub mod ratio_box;

@@ -3,6 +3,7 @@ ghost use Rattle.std.specs.Prelude.{◌≡◌};
 ghost use Rattle.item_limits.specs.Limits.{adjustment_of, named_length, border_length, at_most, at_least, limits_of, clamped};
 ghost use Rattle.item_limits.specs.LimitLaws.{Number, Ordered, Fits};
 
+use number::{f32_max, f32_min};
 use style::modes::BoxSizing;
 
 // One length of a side, said twice: in the box that `box-sizing` names, and in the border box. Said twice since `v + a - a` is not `v` in f32.
@@ -58,8 +59,8 @@ impl SideLength {
         ensures { result ≡ at_most self other }
     {
         SideLength {
-            named: self.named.min(other.named),
-            border: self.border.min(other.border),
+            named: f32_min(self.named, other.named),
+            border: f32_min(self.border, other.border),
         }
     }
 
@@ -67,8 +68,8 @@ impl SideLength {
         ensures { result ≡ at_least self other }
     {
         SideLength {
-            named: self.named.max(other.named),
-            border: self.border.max(other.border),
+            named: f32_max(self.named, other.named),
+            border: f32_max(self.border, other.border),
         }
     }
 }

@@ -5,13 +5,14 @@ ghost use Rattle.item_placing.specs.Blocks.{area_size, counted_insets, both_set,
 use crate::area_item::AreaItem;
 use crate::edge::axis_direction;
 use geometry::Line;
+use number::f32_max;
 use style::alignment::Direction;
 
 // An area whose end comes before its start is empty.
 fn area_size(area: Line<f32>) -> f32
     ensures { result ≡ area_size area }
 {
-    (area.end - area.start).max(0.0)
+    f32_max(area.end - area.start, 0.0)
 }
 
 pub(crate) fn both_set(inset: Line<Option<f32>>) -> bool

@@ -5,6 +5,7 @@ ghost use Rattle.item_placing.specs.Margins.{set_margins, set_size, rest_of, aut
 use crate::area_item::AreaItem;
 use crate::block::{both_set, length_of};
 use geometry::{AbsoluteAxis, Line};
+use number::f32_max;
 use style::alignment::Direction;
 
 // What two automatic margins take of a space: horizontally, one that is negative is all at the end of the line.
@@ -60,7 +61,7 @@ impl AreaItem {
     {
         let rest = length_of(self.block()) - self.size - self.set_margin_sum();
         if !self.position.is_out_of_flow() {
-            rest.max(0.0)
+            f32_max(rest, 0.0)
         } else if both_set(self.inset) {
             rest
         } else {

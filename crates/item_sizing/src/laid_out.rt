@@ -10,6 +10,7 @@ use item_limits::limits::SideLength;
 use item_limits::ratio_box::AspectRatio;
 use item_questions::asking::{measure, perform_layout};
 use item_questions::fault::ItemFault;
+use number::{f32_max, f32_min};
 use style::length::AvailableSpace;
 use style::modes::RequestedAxis;
 use tree::layout::LayoutOutput;
@@ -28,8 +29,8 @@ fn hold(max: Option<SideLength>, min: f32, length: f32) -> f32
     ensures { result ≡ held max min length }
 {
     match max {
-        Some(max) => length.min(max.border).max(min),
-        None => length.max(min),
+        Some(max) => f32_max(f32_min(length, max.border), min),
+        None => f32_max(length, min),
     }
 }
 

@@ -1,10 +1,13 @@
 // Limits and sums of numbers that may be missing.
+#![tactic(auto)]
+
 ghost use Rattle.std.specs.Prelude.{◌≡◌, Some};
 ghost use Rattle.std.specs.Option.{unwrap_or};
 ghost use Rattle.geometry.specs.Shapes.{zip_size, zip_three_sizes};
 ghost use Rattle.maybe_math.specs.MaybeMath.{maybe_min, maybe_max, maybe_clamp, maybe_add, maybe_sub};
 
 use geometry::Size;
+use number::{f32_max, f32_min};
 
 // Where `self` is missing, so is the result; where the other is missing, `self` stays.
 pub trait MaybeMath<In, Out>: Sized {
@@ -48,7 +51,7 @@ impl MaybeMath<Option<f32>, Option<f32>> for Option<f32> {
 
     fn maybe_min(self, rhs: Option<f32>) -> Option<f32> {
         match (self, rhs) {
-            (Some(l), Some(r)) => Some(l.min(r)),
+            (Some(l), Some(r)) => Some(f32_min(l, r)),
             (Some(_), None) => self,
             (None, _) => None,
         }
@@ -56,7 +59,7 @@ impl MaybeMath<Option<f32>, Option<f32>> for Option<f32> {
 
     fn maybe_max(self, rhs: Option<f32>) -> Option<f32> {
         match (self, rhs) {
-            (Some(l), Some(r)) => Some(l.max(r)),
+            (Some(l), Some(r)) => Some(f32_max(l, r)),
             (Some(_), None) => self,
             (None, _) => None,
         }
@@ -64,9 +67,9 @@ impl MaybeMath<Option<f32>, Option<f32>> for Option<f32> {
 
     fn maybe_clamp(self, min: Option<f32>, max: Option<f32>) -> Option<f32> {
         match (self, min, max) {
-            (Some(base), Some(min), Some(max)) => Some(base.min(max).max(min)),
-            (Some(base), None, Some(max)) => Some(base.min(max)),
-            (Some(base), Some(min), None) => Some(base.max(min)),
+            (Some(base), Some(min), Some(max)) => Some(f32_max(f32_min(base, max), min)),
+            (Some(base), None, Some(max)) => Some(f32_min(base, max)),
+            (Some(base), Some(min), None) => Some(f32_max(base, min)),
             (Some(_), None, None) => self,
             (None, _, _) => None,
         }
@@ -135,23 +138,23 @@ impl MaybeMath<Option<f32>, f32> for f32 {
 
     fn maybe_min(self, rhs: Option<f32>) -> f32 {
         match rhs {
-            Some(val) => self.min(val),
+            Some(val) => f32_min(self, val),
             None => self,
         }
     }
 
     fn maybe_max(self, rhs: Option<f32>) -> f32 {
         match rhs {
-            Some(val) => self.max(val),
+            Some(val) => f32_max(self, val),
             None => self,
         }
     }
 
     fn maybe_clamp(self, min: Option<f32>, max: Option<f32>) -> f32 {
         match (min, max) {
-            (Some(min), Some(max)) => self.min(max).max(min),
-            (None, Some(max)) => self.min(max),
-            (Some(min), None) => self.max(min),
+            (Some(min), Some(max)) => f32_max(f32_min(self, max), min),
+            (None, Some(max)) => f32_min(self, max),
+            (Some(min), None) => f32_max(self, min),
             (None, None) => self,
         }
     }

@@ -1,4 +1,6 @@
 // Numbers as `f32`: the limits, a zero without its sign, the larger and the smaller of two, and the laws that all else rests on.
+#![tactic(auto)]
+
 pub mod laws;
 
 ghost use Rattle.std.specs.Prelude.{◌≡◌};
@@ -24,12 +26,12 @@ pub fn without_zero_sign(x: f32) -> f32
 pub fn f32_max(a: f32, b: f32) -> f32
     ensures { result ≡ float_max a b }
 {
-    a.max(b)
+    if b <= a || b.is_nan() { a } else { b }
 }
 
 // The smaller of two; where one is a NaN, the other.
 pub fn f32_min(a: f32, b: f32) -> f32
     ensures { result ≡ float_min a b }
 {
-    a.min(b)
+    if a <= b || b.is_nan() { a } else { b }
 }

@@ -1,4 +1,6 @@
 // The description of a page as text: how it is read, and how the tracks of its axes are aligned.
+#![tactic(auto)]
+
 pub mod axis_alignment;
 mod container_text;
 pub mod laws;

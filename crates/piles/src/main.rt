@@ -1,4 +1,6 @@
 // Piles of layers over both hosts: what they answer and count, and on standard error how long a measurement takes.
+#![tactic(auto)]
+
 ghost use Rattle.std.specs.Prelude.{IfOk};
 ghost use Rattle.recorded_host.specs.Recorded.{InOrder as RecordedInOrder};
 ghost use Rattle.text_host.specs.Computed.{InOrder as TextInOrder};

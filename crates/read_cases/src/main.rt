@@ -1,4 +1,6 @@
 // The program: reads page descriptions that are parted by a line of only `~`, and says of each what it is, or why it is refused.
+#![tactic(auto)]
+
 ghost use Rattle.std.specs.Prelude.{◌≤◌, length};
 
 use page_text::read_error::ReadFault;

@@ -1,4 +1,6 @@
 // A host that answers by tables of records.
+#![tactic(auto)]
+
 pub mod host;
 pub mod laws;
 pub mod records;

@@ -1,4 +1,6 @@
 // The program: reads the description of a result page and says where everything on it stands.
+#![tactic(auto)]
+
 use geometry::AbsoluteAxis;
 use page_report::axis_report::AxisReport;
 use page_text::axis_alignment::align_axis;

@@ -1,4 +1,6 @@
 // A host of texts: it computes how each breaks into lines.
+#![tactic(auto)]
+
 pub mod host;
 pub mod laws;
 #[cfg(test)]

@@ -2,6 +2,7 @@
 ghost use Rattle.std.specs.Prelude.{◌≡◌, ◌^◌, ◌<◌};
 ghost use Rattle.tracks.specs.Distribution.{count, used_alignment, first_share_of, gap as gap_between};
 
+use number::f32_max;
 use style::alignment::{AlignContent, AlignContentKeyword};
 
 // The keyword to align by, once a distribution that is not possible fell back and a safe alignment that overflows became start.
@@ -61,7 +62,7 @@ pub(crate) fn gap(free_space: f32, num_items: usize, keyword: AlignContentKeywor
     requires { num_items < 2 ^ 63 }
     ensures { result ≡ gap_between free_space num_items keyword }
 {
-    let free_space = free_space.max(0.0);
+    let free_space = f32_max(free_space, 0.0);
     match keyword {
         AlignContentKeyword::SpaceBetween => free_space / as_number(num_items.saturating_sub(1)),
         AlignContentKeyword::SpaceAround => free_space / as_number(num_items),

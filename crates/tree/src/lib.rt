@@ -1,4 +1,6 @@
 // What a layout algorithm asks of the tree that it works on, what it is answered, and what every host of such a tree has in common.
+#![tactic(auto)]
+
 pub mod bits;
 pub mod fault;
 pub mod laws;

@@ -1,4 +1,6 @@
 // The worked pages: examples whose numbers were found by hand, proved to come out of the definitions.
+#![tactic(auto)]
+
 #[cfg(test)]
 mod tests;
 

@@ -24,13 +24,13 @@ none = record {
   size = record { width = nan; height = nan };
 }
 
-pub returns-then-answers-for : goal.returns-then-answers-for
-returns-then-answers-for c =
+pub returns-then-answers_for : goal.returns-then-answers_for
+returns-then-answers_for c =
     let es = c.args.entries.now in
     let i = c.loop-entry.entry-index in
     record {
       found = sym (hit c.args.asked es i none c.loop-entry-test.true (search rules)) ∙ c.loop-entry.invariant;
-      right = λ m all. ap (measures m) (sym (c.answers-for.ensures.same c.if-answers-for.true)) ∙ All-get_or (Right m) es i none c.loop-entry-test.true all;
+      right = λ m all. ap (measures m) (sym (c.answers_for.ensures.same c.if-answers_for.true)) ∙ All-get_or (Right m) es i none c.loop-entry-test.true all;
     }
 
 pub loop-entry-preserved : goal.loop-entry-preserved

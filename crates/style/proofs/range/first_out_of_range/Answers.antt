@@ -2,4 +2,4 @@ use Rattle.style.proofs.Ranges.{answered}
 use Rattle.style.proofs.range.first_out_of_range.Goals as goal
 
 pub returns : goal.returns
-returns c = answered c.args.style.now c.first-by-groups.result c.first-by-groups.ensures
+returns c = answered c.args.style.now c.first_by_groups.result c.first_by_groups.ensures

@@ -5,8 +5,8 @@ use Rattle.tables.proofs.keyed.find.Goals as goal
 pub bounds-records-place : goal.bounds-records-place
 bounds-records-place g c = (first_at (λ r. g.R.Keyed.fits r c.args.key.now) c.args.records.now c.in-Some.place (sym c.in-Some.ensures)).inside
 
-pub offset-bounds-records-place : goal.offset-bounds-records-place
-offset-bounds-records-place g c = omega (arith, bounds-records-place g c)
+pub offset_bounds-records-place : goal.offset_bounds-records-place
+offset_bounds-records-place g c = omega (arith, bounds-records-place g c)
 
 pub returns-in-Some : goal.returns-in-Some
 returns-in-Some g c =

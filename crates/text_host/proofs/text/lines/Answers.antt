@@ -6,7 +6,7 @@ pub returns : goal.returns
 returns c =
     let a = c.args.letters in
     let by = c.args.columns in
-    let is = c.div-ceil.ensures in
+    let is = c.div_ceil.ensures in
     record {
       value = is;
       enough = subst (λ (r : ℕ). a ≤ r * by) (sym is) (enough a by c.requires);

@@ -10,14 +10,14 @@ use Rattle.tracks.proofs.walk.align_tracks.Goals as goal
 
 pub returns : goal.returns
 returns c =
-    let content = c.args.grid-container-content-box-size in
+    let content = c.args.grid_container_content_box_size in
     let padding = c.args.padding in
     let border = c.args.border in
     let origin = plus padding.start border.start in
-    let style = c.args.track-alignment-style in
-    let rev = c.args.axis-is-reversed in
+    let style = c.args.track_alignment_style in
+    let rev = c.args.axis_is_reversed in
     let ts = c.args.tracks.now in
-    let value : c.walk-tracks.new.tracks ≡ aligned content origin style rev ts = search rules in
+    let value : c.walk_tracks.new.tracks ≡ aligned content origin style rev ts = search rules in
     record {
       value = value;
       laws = record {

@@ -6,10 +6,10 @@ use Rattle.tree.proofs.bits.same_f32.Goals as goal
 -- a number that fits is made from its own bits again
 pub returns : goal.returns
 returns c =
-    let bits-a = c.f32-to-bits-with-nan.ensures in
-    let bits-b = c.f32-to-bits-with-nan-2.ensures in
-    let fits-a : T (fits binary32 c.args.a) = subst T (sym c.well-formed.0.1) tt in
-    let fits-b : T (fits binary32 c.args.b) = subst T (sym c.well-formed.1.0.1) tt in
+    let bits-a = c.f32_to_bits_with_nan.ensures in
+    let bits-b = c.f32_to_bits_with_nan-2.ensures in
+    let fits-a : T (fits binary32 c.args.a) = subst T (sym c.well_formed.0.1) tt in
+    let fits-b : T (fits binary32 c.args.b) = subst T (sym c.well_formed.1.0.1) tt in
     record {
       test = search rules;
       same = λ e.

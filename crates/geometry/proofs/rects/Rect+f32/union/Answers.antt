@@ -8,5 +8,5 @@ use Rattle.geometry.proofs.rects.Rect+f32.union.Goals as goal
 
 pub returns : goal.returns
 returns c =
-    let e = c.outer-edges.ensures in
+    let e = c.outer_edges.ensures in
     record { edges = e; law = subst (SmallestAround c.args.self c.args.other) (sym e) (union_smallest c.args.self c.args.other) }

@@ -5,5 +5,5 @@ use Rattle.item_limits.proofs.item_axis.ItemAxis.side_sizing.Goals as goal
 
 pub returns : goal.returns
 returns c =
-    let e = c.sizing-of.ensures in
+    let e = c.sizing_of.ensures in
     record { sizing = e; law = subst (Sized c.args.self) (sym e) (sized c.args.self c.args.size) }

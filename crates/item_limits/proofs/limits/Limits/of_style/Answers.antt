@@ -6,6 +6,6 @@ use Rattle.item_limits.proofs.limits.Limits.of_style.Goals as goal
 
 pub returns : goal.returns
 returns c =
-    let e = c.by-style.ensures in
-    let p = c.args.padding-border in
-    record { limits = e; law = λ n. subst (Ordered p) (sym e) (limits_ordered c.args.min c.args.max p (adjustment_of c.args.box-sizing p) n) }
+    let e = c.by_style.ensures in
+    let p = c.args.padding_border in
+    record { limits = e; law = λ n. subst (Ordered p) (sym e) (limits_ordered c.args.min c.args.max p (adjustment_of c.args.box_sizing p) n) }

@@ -10,10 +10,10 @@ use Rattle.item_sizing.proofs.sizing_item.SizingItem.lay_out.Goals as goal
 pub returns : goal.returns
 returns g c =
     let m = (g.H.LayoutPartialTree.meaning c.args.host.now).means in
-    let d = c.size-and-lay-out.ensures.finds in
+    let d = c.size_and_lay_out.ensures.finds in
     record {
       finds = d;
-      order = c.size-and-lay-out.ensures.order;
+      order = c.size_and_lay_out.ensures.order;
       law = record {
         at_most_two_measurements = (whole_few m c.args.self).0;
         at_most_one_layout = (whole_few m c.args.self).1;

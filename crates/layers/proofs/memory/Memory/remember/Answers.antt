@@ -9,7 +9,7 @@ returns c =
     let es = vec_items c.args.self.now.entries in
     let q = c.args.question in
     let s = c.args.size in
-    let list : vec_items c.push-reserved.new.self ≡ remembering es q s = search rules in
+    let list : vec_items c.push_reserved.new.self ≡ remembering es q s = search rules in
     record {
       list = list;
       right = λ m all one. subst (AllRight m) (sym list) (remembering_right m es q s all one);
