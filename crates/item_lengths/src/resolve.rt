@@ -14,8 +14,8 @@ fn calculate<H: LayoutPartialTree>(
     basis: f32,
     host: &H,
 ) -> Result<f32, CalcOutOfLimits>
-    requires { ordered host.now }
-    ensures { result ≡ calculated (meaning host.now).means.calculates handle basis }
+    requires { H.ordered host.now }
+    ensures { result ≡ calculated (H.meaning host.now).means.calculates handle basis }
 {
     let number = host.calc(handle, without_zero_sign(basis));
     if in_limits(number) {
@@ -30,8 +30,8 @@ fn calculate_some<H: LayoutPartialTree>(
     basis: f32,
     host: &H,
 ) -> Result<Option<f32>, CalcOutOfLimits>
-    requires { ordered host.now }
-    ensures { result ≡ present (calculated (meaning host.now).means.calculates handle basis) }
+    requires { H.ordered host.now }
+    ensures { result ≡ present (calculated (H.meaning host.now).means.calculates handle basis) }
 {
     match calculate(handle, basis, host) {
         Ok(number) => Ok(Some(number)),
@@ -112,8 +112,8 @@ pub fn resolve_fit_content_argument<H: LayoutPartialTree>(
     basis: f32,
     host: &H,
 ) -> Result<Option<f32>, CalcOutOfLimits>
-    requires { ordered host.now }
-    ensures { result ≡ fit_content_argument (meaning host.now).means.calculates dimension basis }
+    requires { H.ordered host.now }
+    ensures { result ≡ fit_content_argument (H.meaning host.now).means.calculates dimension basis }
 {
     match dimension {
         Dimension::FitContentPx(x) => Ok(Some(x)),

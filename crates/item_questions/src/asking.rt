@@ -100,11 +100,11 @@ pub fn measure<H: LayoutPartialTree>(
     host: &mut H,
     question: Question,
 ) -> Result<Size<f32>, ItemFault>
-    requires { ordered host.old }
-    ensures answer { result ≡ measured (meaning host.old).means question }
-    ensures order { ordered host.new }
-    ensures same { meaning host.new ≡ meaning host.old }
-    ensures counts { tallied host.new ≡ raise 1 0 (tallied host.old) }
+    requires { H.ordered host.old }
+    ensures answer { result ≡ measured (H.meaning host.old).means question }
+    ensures order { H.ordered host.new }
+    ensures same { H.meaning host.new ≡ H.meaning host.old }
+    ensures counts { H.tallied host.new ≡ raise 1 0 (H.tallied host.old) }
 {
     let size = host.measure(unsigned(question))?;
     if size_in_limits(size) {
@@ -119,11 +119,11 @@ pub fn perform_layout<H: LayoutPartialTree>(
     host: &mut H,
     question: Question,
 ) -> Result<LayoutOutput, ItemFault>
-    requires { ordered host.old }
-    ensures answer { result ≡ laid_out (meaning host.old).means question }
-    ensures order { ordered host.new }
-    ensures same { meaning host.new ≡ meaning host.old }
-    ensures counts { tallied host.new ≡ raise 0 1 (tallied host.old) }
+    requires { H.ordered host.old }
+    ensures answer { result ≡ laid_out (H.meaning host.old).means question }
+    ensures order { H.ordered host.new }
+    ensures same { H.meaning host.new ≡ H.meaning host.old }
+    ensures counts { H.tallied host.new ≡ raise 0 1 (H.tallied host.old) }
 {
     let layout = host.perform_layout(unsigned(question))?;
     if layout_in_limits(layout) {
@@ -139,11 +139,11 @@ pub fn fetch_candidate<H: LayoutPartialTree>(
     question: Question,
     index: u32,
 ) -> Result<OofCandidate, ItemFault>
-    requires { ordered host.old }
-    ensures answer { result ≡ fetched (meaning host.old).means question index }
-    ensures order { ordered host.new }
-    ensures same { meaning host.new ≡ meaning host.old }
-    ensures counts { tallied host.new ≡ tallied host.old }
+    requires { H.ordered host.old }
+    ensures answer { result ≡ fetched (H.meaning host.old).means question index }
+    ensures order { H.ordered host.new }
+    ensures same { H.meaning host.new ≡ H.meaning host.old }
+    ensures counts { H.tallied host.new ≡ H.tallied host.old }
 {
     let candidate = host.fetch_candidate(unsigned(question), index)?;
     if candidate_in_limits(candidate) {

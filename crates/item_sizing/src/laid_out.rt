@@ -106,9 +106,9 @@ impl SizingItem {
         host: &mut H,
         known: Size<Option<f32>>,
     ) -> Result<LaidOutItem, ItemFault>
-        requires { ordered host.old }
-        ensures finds { Finds (laid_out_with (meaning host.old).means self known) result (meaning host.old) (meaning host.new) (tallied host.old) (tallied host.new) }
-        ensures order { ordered host.new }
+        requires { H.ordered host.old }
+        ensures finds { Finds (laid_out_with (H.meaning host.old).means self known) result (H.meaning host.old) (H.meaning host.new) (H.tallied host.old) (H.tallied host.new) }
+        ensures order { H.ordered host.new }
     {
         if self.wants_measuring(known) {
             let measured = measure(host, self.whole_question(known))?;
@@ -135,9 +135,9 @@ impl SizingItem {
     }
 
     fn size_and_lay_out<H: LayoutPartialTree>(self, host: &mut H) -> Result<LaidOutItem, ItemFault>
-        requires { ordered host.old }
-        ensures finds { Finds (laid_out_item (meaning host.old).means self) result (meaning host.old) (meaning host.new) (tallied host.old) (tallied host.new) }
-        ensures order { ordered host.new }
+        requires { H.ordered host.old }
+        ensures finds { Finds (laid_out_item (H.meaning host.old).means self) result (H.meaning host.old) (H.meaning host.new) (H.tallied host.old) (H.tallied host.new) }
+        ensures order { H.ordered host.new }
     {
         let known = self.used_sizes(host)?;
         self.lay_out_with(host, known)
@@ -145,10 +145,10 @@ impl SizingItem {
 
     // Sizes the item and lays it out, with at most two measurements and one layout.
     pub fn lay_out<H: LayoutPartialTree>(self, host: &mut H) -> Result<LaidOutItem, ItemFault>
-        requires { ordered host.old }
-        ensures finds { Finds (laid_out_item (meaning host.old).means self) result (meaning host.old) (meaning host.new) (tallied host.old) (tallied host.new) }
-        ensures order { ordered host.new }
-        ensures law { Sized (meaning host.old).means self result }
+        requires { H.ordered host.old }
+        ensures finds { Finds (laid_out_item (H.meaning host.old).means self) result (H.meaning host.old) (H.meaning host.new) (H.tallied host.old) (H.tallied host.new) }
+        ensures order { H.ordered host.new }
+        ensures law { Sized (H.meaning host.old).means self result }
     {
         self.size_and_lay_out(host)
     }

@@ -52,9 +52,9 @@ fn used_if_any(limits: Limits, length: Option<SideLength>) -> Option<f32>
 
 impl SizingItem {
     fn used_width<H: LayoutPartialTree>(self, host: &mut H) -> Result<UsedWidth, ItemFault>
-        requires { ordered host.old }
-        ensures finds { Finds (used_width (meaning host.old).means self) result (meaning host.old) (meaning host.new) (tallied host.old) (tallied host.new) }
-        ensures order { ordered host.new }
+        requires { H.ordered host.old }
+        ensures finds { Finds (used_width (H.meaning host.old).means self) result (H.meaning host.old) (H.meaning host.new) (H.tallied host.old) (H.tallied host.new) }
+        ensures order { H.ordered host.new }
     {
         let limits = self.limits.width;
         match self.sizing.width {
@@ -86,9 +86,9 @@ impl SizingItem {
         host: &mut H,
         width: UsedWidth,
     ) -> Result<Option<f32>, ItemFault>
-        requires { ordered host.old }
-        ensures finds { Finds (used_height (meaning host.old).means self width) result (meaning host.old) (meaning host.new) (tallied host.old) (tallied host.new) }
-        ensures order { ordered host.new }
+        requires { H.ordered host.old }
+        ensures finds { Finds (used_height (H.meaning host.old).means self width) result (H.meaning host.old) (H.meaning host.new) (H.tallied host.old) (H.tallied host.new) }
+        ensures order { H.ordered host.new }
     {
         let limits = self.limits.height;
         match self.sizing.height {
@@ -110,9 +110,9 @@ impl SizingItem {
         self,
         host: &mut H,
     ) -> Result<Size<Option<f32>>, ItemFault>
-        requires { ordered host.old }
-        ensures finds { Finds (sizes_by_axis (meaning host.old).means self) result (meaning host.old) (meaning host.new) (tallied host.old) (tallied host.new) }
-        ensures order { ordered host.new }
+        requires { H.ordered host.old }
+        ensures finds { Finds (sizes_by_axis (H.meaning host.old).means self) result (H.meaning host.old) (H.meaning host.new) (H.tallied host.old) (H.tallied host.new) }
+        ensures order { H.ordered host.new }
     {
         let width = self.used_width(host)?;
         let height = self.used_height(host, width)?;
@@ -155,9 +155,9 @@ impl SizingItem {
         host: &mut H,
         ratio: AspectRatio,
     ) -> Result<Option<Size<SideLength>>, ItemFault>
-        requires { ordered host.old }
-        ensures finds { Finds (ratio_box (meaning host.old).means self ratio) result (meaning host.old) (meaning host.new) (tallied host.old) (tallied host.new) }
-        ensures order { ordered host.new }
+        requires { H.ordered host.old }
+        ensures finds { Finds (ratio_box (H.meaning host.old).means self ratio) result (H.meaning host.old) (H.meaning host.new) (H.tallied host.old) (H.tallied host.new) }
+        ensures order { H.ordered host.new }
     {
         match self.box_source(ratio) {
             BoxSource::Known(known) => Ok(Some(known)),
@@ -180,9 +180,9 @@ impl SizingItem {
         host: &mut H,
         ratio: f32,
     ) -> Result<Size<Option<f32>>, ItemFault>
-        requires { ordered host.old }
-        ensures finds { Finds (sizes_by_ratio (meaning host.old).means self ratio) result (meaning host.old) (meaning host.new) (tallied host.old) (tallied host.new) }
-        ensures order { ordered host.new }
+        requires { H.ordered host.old }
+        ensures finds { Finds (sizes_by_ratio (H.meaning host.old).means self ratio) result (H.meaning host.old) (H.meaning host.new) (H.tallied host.old) (H.tallied host.new) }
+        ensures order { H.ordered host.new }
     {
         let limits = self.limits;
         let boxed = self.ratio_box(host, AspectRatio { ratio, limits })?;
@@ -204,9 +204,9 @@ impl SizingItem {
         self,
         host: &mut H,
     ) -> Result<Size<Option<f32>>, ItemFault>
-        requires { ordered host.old }
-        ensures finds { Finds (used_sizes (meaning host.old).means self) result (meaning host.old) (meaning host.new) (tallied host.old) (tallied host.new) }
-        ensures order { ordered host.new }
+        requires { H.ordered host.old }
+        ensures finds { Finds (used_sizes (H.meaning host.old).means self) result (H.meaning host.old) (H.meaning host.new) (H.tallied host.old) (H.tallied host.new) }
+        ensures order { H.ordered host.new }
     {
         match self.aspect_ratio {
             None => self.sizes_by_axis(host),

@@ -23,7 +23,7 @@ impl<H: LayoutPartialTree> Cache<H> {
     // A cache that remembers nothing yet, and is in order over a host in order. For want of memory the host below comes back.
     pub fn new(heap: Global, below: H) -> Result<Cache<H>, AllocFailed<H>>
         ensures made { MatchResult result (λ c. (c.below ≡ below) × (entries_of c ≡ [])) (λ e. e.value ≡ below) }
-        ensures order { ordered below → MatchResult result (λ c. ordered c.below × RemembersRightly meaning c) (λ e. ordered e.value) }
+        ensures order { H.ordered below → MatchResult result (λ c. H.ordered c.below × RemembersRightly H.meaning c) (λ e. H.ordered e.value) }
     {
         match Memory::new(heap) {
             Ok(memory) => Ok(Cache { below, memory }),
@@ -46,18 +46,18 @@ impl<H: LayoutPartialTree> Cache<H> {
 }
 
 impl<H: LayoutPartialTree> LayoutPartialTree for Cache<H> {
-    ghost meaning = { λ s. meaning s.below };
+    ghost meaning = { λ s. H.meaning s.below };
 
-    ghost ordered = { λ s. ordered s.below × RemembersRightly meaning s };
+    ghost ordered = { λ s. H.ordered s.below × RemembersRightly H.meaning s };
 
     ghost tallied = { λ _. None };
 
     fn measure(&mut self, question: Question) -> Result<Size<f32>, HostFault>
-        requires { ordered self.old.below × RemembersRightly meaning self.old }
-        ensures answer { result ≡ measures (meaning self.old.below).means question }
-        ensures order { ordered self.new.below × RemembersRightly meaning self.new }
-        ensures same { meaning self.new.below ≡ meaning self.old.below }
-        ensures cached { Cached (tallied) self.old self.new question result }
+        requires { H.ordered self.old.below × RemembersRightly H.meaning self.old }
+        ensures answer { result ≡ measures (H.meaning self.old.below).means question }
+        ensures order { H.ordered self.new.below × RemembersRightly H.meaning self.new }
+        ensures same { H.meaning self.new.below ≡ H.meaning self.old.below }
+        ensures cached { Cached H.tallied self.old self.new question result }
     {
         if let Some(size) = self.memory.recall(question) {
             return Ok(size);
@@ -70,23 +70,23 @@ impl<H: LayoutPartialTree> LayoutPartialTree for Cache<H> {
     }
 
     fn perform_layout(&mut self, question: Question) -> Result<LayoutOutput, HostFault>
-        requires { ordered self.old.below × RemembersRightly meaning self.old }
-        ensures answer { result ≡ lays_out (meaning self.old.below).means question }
-        ensures order { ordered self.new.below × RemembersRightly meaning self.new }
-        ensures same { meaning self.new.below ≡ meaning self.old.below }
+        requires { H.ordered self.old.below × RemembersRightly H.meaning self.old }
+        ensures answer { result ≡ lays_out (H.meaning self.old.below).means question }
+        ensures order { H.ordered self.new.below × RemembersRightly H.meaning self.new }
+        ensures same { H.meaning self.new.below ≡ H.meaning self.old.below }
         ensures memory { self.new.memory ≡ self.old.memory }
-        ensures below { tallied self.new.below ≡ raise 0 1 (tallied self.old.below) }
+        ensures below { H.tallied self.new.below ≡ raise 0 1 (H.tallied self.old.below) }
     {
         self.below.perform_layout(question)
     }
 
     fn fetch_candidate(&mut self, question: Question, index: u32) -> Result<OofCandidate, HostFault>
-        requires { ordered self.old.below × RemembersRightly meaning self.old }
-        ensures answer { result ≡ fetches (meaning self.old.below).means question index }
-        ensures order { ordered self.new.below × RemembersRightly meaning self.new }
-        ensures same { meaning self.new.below ≡ meaning self.old.below }
+        requires { H.ordered self.old.below × RemembersRightly H.meaning self.old }
+        ensures answer { result ≡ fetches (H.meaning self.old.below).means question index }
+        ensures order { H.ordered self.new.below × RemembersRightly H.meaning self.new }
+        ensures same { H.meaning self.new.below ≡ H.meaning self.old.below }
         ensures memory { self.new.memory ≡ self.old.memory }
-        ensures below { tallied self.new.below ≡ tallied self.old.below }
+        ensures below { H.tallied self.new.below ≡ H.tallied self.old.below }
     {
         self.below.fetch_candidate(question, index)
     }
@@ -96,12 +96,12 @@ impl<H: LayoutPartialTree> LayoutPartialTree for Cache<H> {
     }
 
     fn store(&mut self, node: u64, layout: &Layout) -> Result<(), HostFault>
-        requires { ordered self.old.below × RemembersRightly meaning self.old }
-        ensures answer { result ≡ stores (meaning self.old.below).means node }
-        ensures order { ordered self.new.below × RemembersRightly meaning self.new }
-        ensures change { meaning self.new.below ≡ with_stored (meaning self.old.below) node layout.now }
+        requires { H.ordered self.old.below × RemembersRightly H.meaning self.old }
+        ensures answer { result ≡ stores (H.meaning self.old.below).means node }
+        ensures order { H.ordered self.new.below × RemembersRightly H.meaning self.new }
+        ensures change { H.meaning self.new.below ≡ with_stored (H.meaning self.old.below) node layout.now }
         ensures memory { self.new.memory ≡ self.old.memory }
-        ensures below { tallied self.new.below ≡ tallied self.old.below }
+        ensures below { H.tallied self.new.below ≡ H.tallied self.old.below }
     {
         self.below.store(node, layout)
     }

@@ -14,7 +14,7 @@ pub fn tally_over_cache<H: LayoutPartialTree>(
     host: H,
 ) -> Result<Tally<Cache<H>>, AllocFailed<H>>
     ensures made { MatchResult result (λ t. (t.below.below ≡ host) × (entries_of t.below ≡ []) × (counted t ≡ Some (counts_of 0 0))) (λ e. e.value ≡ host) }
-    ensures order { ordered host → MatchResult result (λ t. ordered t.below.below × RemembersRightly meaning t.below) (λ e. ordered e.value) }
+    ensures order { H.ordered host → MatchResult result (λ t. H.ordered t.below.below × RemembersRightly H.meaning t.below) (λ e. H.ordered e.value) }
 {
     let cache = Cache::new(heap, host)?;
     Ok(Tally::new(cache))

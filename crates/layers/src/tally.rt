@@ -68,43 +68,43 @@ impl<H> Tally<H> {
 }
 
 impl<H: LayoutPartialTree> LayoutPartialTree for Tally<H> {
-    ghost meaning = { λ s. meaning s.below };
+    ghost meaning = { λ s. H.meaning s.below };
 
-    ghost ordered = { λ s. ordered s.below };
+    ghost ordered = { λ s. H.ordered s.below };
 
     ghost tallied = { counted };
 
     fn measure(&mut self, question: Question) -> Result<Size<f32>, HostFault>
-        requires { ordered self.old.below }
-        ensures answer { result ≡ measures (meaning self.old.below).means question }
-        ensures order { ordered self.new.below }
-        ensures same { meaning self.new.below ≡ meaning self.old.below }
+        requires { H.ordered self.old.below }
+        ensures answer { result ≡ measures (H.meaning self.old.below).means question }
+        ensures order { H.ordered self.new.below }
+        ensures same { H.meaning self.new.below ≡ H.meaning self.old.below }
         ensures counts { counted self.new ≡ raise 1 0 (counted self.old) }
-        ensures below { tallied self.new.below ≡ raise 1 0 (tallied self.old.below) }
+        ensures below { H.tallied self.new.below ≡ raise 1 0 (H.tallied self.old.below) }
     {
         one_more(&mut self.measurements);
         self.below.measure(question)
     }
 
     fn perform_layout(&mut self, question: Question) -> Result<LayoutOutput, HostFault>
-        requires { ordered self.old.below }
-        ensures answer { result ≡ lays_out (meaning self.old.below).means question }
-        ensures order { ordered self.new.below }
-        ensures same { meaning self.new.below ≡ meaning self.old.below }
+        requires { H.ordered self.old.below }
+        ensures answer { result ≡ lays_out (H.meaning self.old.below).means question }
+        ensures order { H.ordered self.new.below }
+        ensures same { H.meaning self.new.below ≡ H.meaning self.old.below }
         ensures counts { counted self.new ≡ raise 0 1 (counted self.old) }
-        ensures below { tallied self.new.below ≡ raise 0 1 (tallied self.old.below) }
+        ensures below { H.tallied self.new.below ≡ raise 0 1 (H.tallied self.old.below) }
     {
         one_more(&mut self.layouts);
         self.below.perform_layout(question)
     }
 
     fn fetch_candidate(&mut self, question: Question, index: u32) -> Result<OofCandidate, HostFault>
-        requires { ordered self.old.below }
-        ensures answer { result ≡ fetches (meaning self.old.below).means question index }
-        ensures order { ordered self.new.below }
-        ensures same { meaning self.new.below ≡ meaning self.old.below }
+        requires { H.ordered self.old.below }
+        ensures answer { result ≡ fetches (H.meaning self.old.below).means question index }
+        ensures order { H.ordered self.new.below }
+        ensures same { H.meaning self.new.below ≡ H.meaning self.old.below }
         ensures counts { counted self.new ≡ counted self.old }
-        ensures below { tallied self.new.below ≡ tallied self.old.below }
+        ensures below { H.tallied self.new.below ≡ H.tallied self.old.below }
     {
         self.below.fetch_candidate(question, index)
     }
@@ -114,12 +114,12 @@ impl<H: LayoutPartialTree> LayoutPartialTree for Tally<H> {
     }
 
     fn store(&mut self, node: u64, layout: &Layout) -> Result<(), HostFault>
-        requires { ordered self.old.below }
-        ensures answer { result ≡ stores (meaning self.old.below).means node }
-        ensures order { ordered self.new.below }
-        ensures change { meaning self.new.below ≡ with_stored (meaning self.old.below) node layout.now }
+        requires { H.ordered self.old.below }
+        ensures answer { result ≡ stores (H.meaning self.old.below).means node }
+        ensures order { H.ordered self.new.below }
+        ensures change { H.meaning self.new.below ≡ with_stored (H.meaning self.old.below) node layout.now }
         ensures counts { counted self.new ≡ counted self.old }
-        ensures below { tallied self.new.below ≡ tallied self.old.below }
+        ensures below { H.tallied self.new.below ≡ H.tallied self.old.below }
     {
         self.below.store(node, layout)
     }
