@@ -19,6 +19,8 @@ MADE = re.compile(r"^(invariant|decreases)-")
 USE = re.compile(r"^\s*(?:ghost )?(?:pub )?use ([\w.·'+-]+?)\.\{([^}]*)\}", re.M)
 # functions that would take the name of a field that stands beside them
 BESIDE_FIELDS = {"first-share": "first_share_of", "free-space": "free_space_of", "used-size": "used_size_of", "height-along": "height_along_of"}
+# what port.py left half spelled
+HALF = {"Goes_on": "GoesOn"}
 # names that are bound by `as`, by a signature's argument or by `let`
 BOUND = {"answer-fault", "node-fault", "gap-between", "question-of", "unsigned-question", "between-insets", "in-range", "of-container", "padding-border", "up-y", "none-there"}
 
@@ -36,6 +38,8 @@ def read(path):
 def spelled(name):
     if name in BESIDE_FIELDS:
         return BESIDE_FIELDS[name]
+    if name in HALF:
+        return HALF[name]
     if "-" not in name:
         return name
     if name[0].isupper():

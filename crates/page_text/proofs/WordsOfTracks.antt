@@ -7,7 +7,7 @@ use Rattle.std.specs.Str.{NoCharPasses}
 use Rattle.std.proofs.lemmas.List.{append_assoc, append-nil, append_cancel_left, append_cancel_right, length_push}
 use Rattle.tracks.specs.declared.grid_track.GridTrack.{GridTrack}
 use Rattle.page_words.specs.WrittenSizes.{size_read}
-use Rattle.page_text.specs.WrittenTracks.{unplaced, TrackRead, TrackInRange, TracksInRange, FirstWord, Words, TracksRead, Goes_on}
+use Rattle.page_text.specs.WrittenTracks.{unplaced, TrackRead, TrackInRange, TracksInRange, FirstWord, Words, TracksRead, GoesOn}
 
 -- in `collapsed(` and `)`
 pub enclosed_read : (w rest inside : List ℕ) (r : Option GridTrack) → w ≡ codes "collapsed(" ++ rest → rest ≡ inside ++ codes ")"
@@ -62,7 +62,7 @@ more_so_far text rest rest' w was is is' t h f k e = record {
 }
 
 -- no word is left
-pub all_so_far : (text rest : List ℕ) (was is : List GridTrack) → SoFar text rest was is → NoCharPasses is_not_whitespace rest → Goes_on text was is
+pub all_so_far : (text rest : List ℕ) (was is : List GridTrack) → SoFar text rest was is → NoCharPasses is_not_whitespace rest → GoesOn text was is
 all_so_far text rest was is h none = record {
   words = h.words;
   more = h.more;

@@ -1,7 +1,7 @@
 -- A page as it is read: what makes it whole, and the range of its numbers.
 use Rattle.std.specs.Prelude.{◌≡◌, ℕ, ◌%◌, ◌≤◌, cond, List, Ok, Err, vec_items, vec_len, codes, Result, OnOk, ◌==◌, ◌≢◌}
 use Rattle.page_text.specs.Containers.{container_finished, TextInRange, ContainerInRange}
-use Rattle.page_text.specs.WrittenTracks.{TracksInRange, Goes_on}
+use Rattle.page_text.specs.WrittenTracks.{TracksInRange, GoesOn}
 use Rattle.page_text.specs.declared.page_description.ContainerDescription.{ContainerDescription}
 use Rattle.page_text.specs.declared.page_description.PageDescription.{PageDescription}
 use Rattle.page_text.specs.declared.read_error.Expected.{Expected}
@@ -18,8 +18,8 @@ pub record Stated (statement rest : List ℕ) (d e : Draft) (r : Result (Unit {0
   pub container_alone : statement ≡ codes "container" → (e.columns ≡ d.columns) × (e.rows ≡ d.rows)
   pub columns_alone : statement ≡ codes "columns" → (e.container ≡ d.container) × (e.rows ≡ d.rows)
   pub rows_alone : statement ≡ codes "rows" → (e.container ≡ d.container) × (e.columns ≡ d.columns)
-  pub columns_go_on : statement ≡ codes "columns" → OnOk r (Goes_on rest (vec_items d.columns) (vec_items e.columns))
-  pub rows_go_on : statement ≡ codes "rows" → OnOk r (Goes_on rest (vec_items d.rows) (vec_items e.rows))
+  pub columns_go_on : statement ≡ codes "columns" → OnOk r (GoesOn rest (vec_items d.columns) (vec_items e.columns))
+  pub rows_go_on : statement ≡ codes "rows" → OnOk r (GoesOn rest (vec_items d.rows) (vec_items e.rows))
   pub nothing_else : (statement ≢ codes "container") → (statement ≢ codes "columns") → (statement ≢ codes "rows") → e ≡ d
 
 -- ---- the end of the description

@@ -49,7 +49,7 @@ TracksRead (w ∷ ws) [] = ⊥
 TracksRead (w ∷ ws) (t ∷ ts) = TrackRead w (Some t) × TracksRead ws ts
 
 -- the tracks of a line go on after those before it
-pub record Goes_on (text : List ℕ) (was is : List GridTrack) : Type 0 where
+pub record GoesOn (text : List ℕ) (was is : List GridTrack) : Type 0 where
   pub words : List (List ℕ)
   pub more : List GridTrack
   pub of_text : Words text words

@@ -1,7 +1,7 @@
 // Reads a page description, line by line: `container`, `columns` and `rows`, with `#` before a comment.
 ghost use Rattle.std.specs.Prelude.{◌≡◌, ◌≤◌, IfErr, vec_len, MatchResult, OnOk, nat_lt};
 ghost use Rattle.page_text.specs.Containers.{TextInRange};
-ghost use Rattle.page_text.specs.WrittenTracks.{TracksInRange, Goes_on};
+ghost use Rattle.page_text.specs.WrittenTracks.{TracksInRange, GoesOn};
 ghost use Rattle.page_text.specs.Pages.{Stated, draft_finished, DraftInRange, PageInRange, AtLine, AtSomeLine};
 
 use crate::container_text::ContainerText;
@@ -33,7 +33,7 @@ fn read_tracks<'a>(
     tracks: &mut Vec<GridTrack>,
 ) -> Result<(), ReadFault<'a>>
     requires { TracksInRange tracks.old.items }
-    ensures added { OnOk result (Goes_on text.now tracks.old.items tracks.new.items) }
+    ensures added { OnOk result (GoesOn text.now tracks.old.items tracks.new.items) }
     ensures range { TracksInRange tracks.new.items }
     ensures place { IfErr result (AtLine line) }
 {

@@ -6,7 +6,7 @@ use Rattle.page_text.proofs.reader.read_tracks.Goals as goal
 
 pub loop-word-init : goal.loop-word-init
 loop-word-init c =
-    (c.requires, none_so_far c.args.text.now _ (vec_items c.args.tracks.now) (ap split_whitespace_rest c.into_iter-word-iterator.ensures.into_iter-gives ∙ c.split_whitespace-word-items.ensures.rest))
+    (c.requires, none_so_far c.args.text.now _ (vec_items c.args.tracks.now) (ap split_whitespace_rest c.into_iter-word-iterator.ensures.into_iter_gives ∙ c.split_whitespace-word-items.ensures.rest))
 
 pub loop-word-preserved : goal.loop-word-preserved
 loop-word-preserved c =
