@@ -106,7 +106,7 @@ fn say(rt: &HostRuntime, answer: Result<Size<f32>, HostFault>) -> anyhow::Result
 
 // Asks twice what is answered, once about a node that is not there, and once what has no answer.
 fn ask<H: LayoutPartialTree>(rt: &HostRuntime, host: &mut H) -> anyhow::Result<()>
-    requires { ordered host.old }
+    requires { H.ordered host.old }
 {
     say(rt, host.measure(about(7, 50.0)))?;
     say(rt, host.measure(about(7, 50.0)))?;
@@ -116,8 +116,8 @@ fn ask<H: LayoutPartialTree>(rt: &HostRuntime, host: &mut H) -> anyhow::Result<(
 
 // So many measurements, of one width below the span after the other; how many had no answer.
 fn measure_round<H: LayoutPartialTree>(host: &mut H, span: u16, rounds: u32) -> u32
-    requires { ordered host.old }
-    ensures { ordered host.new }
+    requires { H.ordered host.old }
+    ensures { H.ordered host.new }
 {
     let mut unanswered = 0u32;
     let mut width = 0u16;
@@ -140,8 +140,8 @@ fn time<H: LayoutPartialTree>(
     host: &mut H,
     span: u16,
 ) -> anyhow::Result<()>
-    requires { ordered host.old }
-    ensures { ordered host.new }
+    requires { H.ordered host.old }
+    ensures { H.ordered host.new }
 {
     let start = Instant::now(rt)?;
     let unanswered = measure_round(host, span, ROUNDS);
