@@ -63,8 +63,8 @@ abbrev pub both_known : Size Float → Size (Option Float)
 both_known z = record { width = Some z.width; height = Some z.height }
 
 abbrev pub after_layout : ℕ → Question → (Size Float → Size Float) → Result LayoutOutput ItemFault → Found LaidOutItem
-after_layout k q type_size (Err f) = record { reply = Err f; measurements = k; layouts = 1 }
-after_layout k q type_size (Ok l) = record { reply = Ok (record { size = type_size l.size; output = l; question = q }); measurements = k; layouts = 1 }
+after_layout k q size_of (Err f) = record { reply = Err f; measurements = k; layouts = 1 }
+after_layout k q size_of (Ok l) = record { reply = Ok (record { size = size_of l.size; output = l; question = q }); measurements = k; layouts = 1 }
 
 abbrev pub after_measuring : Means → SizingItem → Result (Size Float) ItemFault → Found LaidOutItem
 after_measuring m i (Err f) = failed 1 f
