@@ -1,5 +1,5 @@
 -- The stretch_fit size is not negative, and a side that fills the space is that size.
-use Rattle.std.proofs.Common.{◌≡◌, Bool, true, false, cond, not, T, Some, None, Option, refl}
+use Rattle.std.proofs.Common.{◌≡◌, Bool, true, false, cond, T, Some, None, Option, refl}
 use lib.Ieee.{Float, le, is_nan, of_bits}
 use Rattle.style.specs.declared.alignment.AlignItemsKeyword.{AlignItemsKeyword}
 use Rattle.style.specs.declared.alignment.AlignItemsKeyword.TheVariants as item

@@ -1,5 +1,5 @@
 -- What is promised of a side that fills the space around it.
-use Rattle.std.specs.Prelude.{◌≡◌, false, T, Float}
+use Rattle.std.specs.Prelude.{◌≡◌, false, T}
 use Rattle.std.specs.Float.Ieee.{le}
 use Rattle.item_limits.specs.declared.limits.SideLength.{SideLength}
 use Rattle.item_limits.specs.declared.item_axis.ItemAxis.{ItemAxis}

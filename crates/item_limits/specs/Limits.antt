@@ -1,5 +1,5 @@
 -- A length of a side of a box, said in two boxes, and the limits that the side is held in.
-use Rattle.std.specs.Prelude.{Bool, true, false, is_some, Some, None, Option, from_bits, Float}
+use Rattle.std.specs.Prelude.{is_some, Some, None, Option, from_bits, Float}
 use Rattle.std.specs.Float.Ieee.{add, sub}
 use Rattle.std.specs.Float.{float_max, float_min, binary32}
 use Rattle.style.specs.declared.modes.BoxSizing.{BoxSizing}

@@ -1,11 +1,10 @@
 -- Boxes whose sides stand in a ratio, and the limits that one side transfers to the other.
-use Rattle.std.specs.Prelude.{Bool, true, false, cond, Some, None, Option, Float}
+use Rattle.std.specs.Prelude.{cond, Some, None, Option}
 use Rattle.std.specs.Float.{binary32}
 use Rattle.std.specs.Float.Ieee.{mul, div}
 use Rattle.geometry.specs.declared.Size.{Size}
 use Rattle.geometry.specs.Shapes.{zip_size}
 use Rattle.item_limits.specs.declared.limits.SideLength.{SideLength}
-use Rattle.item_limits.specs.declared.limits.Limits.{Limits}
 use Rattle.item_limits.specs.declared.ratio_box.AspectRatio.{AspectRatio}
 use Rattle.item_limits.specs.Limits.{at_most, at_least, named_length}
 

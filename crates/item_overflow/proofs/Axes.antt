@@ -2,7 +2,6 @@
 use Rattle.std.proofs.Common.{Bool, true, false, not, ◌||◌, T}
 use lib.Ieee.{Float, binary32, of_bits, add, le, is_nan, fits}
 use lib.Ieee.Scale.{finite}
-use Rattle.std.specs.Float as Floats
 use Rattle.std.specs.Float.{float_max, float_min}
 use Rattle.std.specs.Float.Order.{le_refl, le_trans}
 use Rattle.number.proofs.Order.{cond_both, le_most_left, le_most_right, least_le_left, least_le_right}

@@ -11,7 +11,7 @@ use Rattle.style.specs.declared.alignment.Direction.TheVariants.{Ltr, Rtl}
 use Rattle.item_overflow.specs.declared.boxes.ContainerBox.{ContainerBox}
 use Rattle.item_overflow.specs.declared.boxes.ItemBox.{ItemBox}
 use Rattle.item_overflow.specs.ScrollableOverflow.{shifted, mirrored, as_container, inline_start, inline_corner, inline_overflow, block_overflow}
-use Rattle.item_overflow.specs.Laws.{Moderate, ModerateSides}
+use Rattle.item_overflow.specs.Laws.{Moderate}
 
 pub within_finite : (n k : ℕ) (x : Float) → Within n k x → T (finite x)
 within_finite n k nan h = absurd h

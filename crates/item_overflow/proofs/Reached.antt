@@ -1,6 +1,6 @@
 -- A contribution is nothing, or the smallest rectangle around what the item reaches.
 use Rattle.std.proofs.Common.{◌≡◌, Bool, true, false, cond, not, ◌&&◌, ◌||◌, T, ◌⊎◌, refl, inl, inr}
-use lib.Ieee.{Float, binary32, of_bits, add, sub, le, lt}
+use lib.Ieee.{Float, binary32, of_bits, le, lt}
 use lib.Ieee.Fits.{sub-fits}
 use Rattle.std.specs.Float.Order.{le_right, lt_of_not-le}
 use Rattle.geometry.specs.Holds.{Holds}

@@ -1,7 +1,7 @@
 -- A sum with what is not above zero is no larger: the other side of `add_grows`.
-use Rattle.std.proofs.Common.{◌≡◌, ℕ, zero, suc, ◌*◌, ◌<◌, Bool, true, false, not, T, ℤ, pos, sym, refl, ap, ◌∙◌, subst, mul-pos, zero-mul, arith, lit<}
+use Rattle.std.proofs.Common.{◌≡◌, ℕ, zero, suc, ◌*◌, Bool, true, false, not, T, ℤ, pos, sym, refl, ap, ◌∙◌, subst, mul-pos, zero-mul, arith, lit<}
 use lib.Ieee.{Float, nan, inf, fin, Format, up, down, round, neg, sum, add, le, is_nan, fits}
-use lib.Ieee.Fits.{up_pos, down_pos}
+use lib.Ieee.Fits.{up_pos}
 use lib.Ieee.Scale.{finite}
 use Rattle.std.specs.Float as Floats
 use Rattle.std.specs.Float.Order.{le_refl, le_trans}

@@ -1,11 +1,10 @@
 -- Automatic margins: what they are where the space is not below 0, is 0, or is not for them.
 use Rattle.std.proofs.Common.{◌≡◌, Bool, true, false, cond, ◌||◌, T, Some, None, Option, sym, refl, ap, ◌∙◌}
-use lib.Ieee.{Float, binary32, of_bits, div, le, lt, is_nan}
+use lib.Ieee.{Float, of_bits, div, le, lt, is_nan}
 use Rattle.std.specs.Float.{float_max}
 use Rattle.std.specs.Float.Order.{lt_of_lt_of_le, lt_irrefl}
 use Rattle.geometry.specs.declared.AbsoluteAxis.{AbsoluteAxis}
 use Rattle.geometry.specs.declared.AbsoluteAxis.TheVariants.{Horizontal, Vertical}
-use Rattle.geometry.specs.declared.Line.{Line}
 use Rattle.style.specs.declared.alignment.Direction.{Direction}
 use Rattle.item_placing.specs.Blocks.{zero, line}
 use Rattle.item_placing.specs.Margins.{halves, at_line_end, two_auto_margins, filled_margins}

@@ -1,7 +1,6 @@
 -- The laws of an item that was placed, from the definition of its place.
 use Rattle.std.proofs.Common.{◌≡◌, Bool, true, false, cond, ◌&&◌, T, Some, None, Option, sym, refl, ap, ◌∙◌, subst}
-use lib.Ieee.{Float, binary32, add, sub, le, lt}
-use Rattle.std.specs.Float.{float_max}
+use lib.Ieee.{Float, binary32, add, sub, lt}
 use Rattle.geometry.specs.declared.AbsoluteAxis.{AbsoluteAxis}
 use Rattle.geometry.specs.declared.AbsoluteAxis.TheVariants.{Horizontal, Vertical}
 use Rattle.geometry.specs.declared.Line.{Line}
@@ -16,10 +15,10 @@ use Rattle.style.specs.declared.alignment.Direction.TheVariants.{Ltr, Rtl}
 use Rattle.style.specs.declared.modes.Position.{Position}
 use Rattle.style.specs.declared.modes.Position.TheVariants.{Static, Relative, Absolute, Fixed, Sticky}
 use Rattle.item_placing.specs.Edges.{start_edge, end_edge, aligned_edge, overflow_position}
-use Rattle.item_placing.specs.Blocks.{zero, line, neither, area_size, both_set, inset_block, shrunk, block_within, direction_of, counted_insets, insets_of, block_of}
+use Rattle.item_placing.specs.Blocks.{zero, line, neither, area_size, both_set, shrunk, block_within, direction_of, counted_insets, insets_of, block_of}
 use Rattle.item_placing.specs.Margins.{rest_of, taken, auto_space, halves, at_line_end, two_auto_margins, filled_margins, with_shim, used_margins}
 use Rattle.item_placing.specs.Places.{overflows, edge_by_alignment, held_edge, edge_of, offset_at, placed}
-use Rattle.item_placing.specs.Laws.{Meets, Uses, whole_area, left_over, with_insets, toward, turned, opposite, Anywhere, InFlow, BesideAutoInset, BetweenInsets, Placed}
+use Rattle.item_placing.specs.Laws.{Meets, Uses, whole_area, left_over, with_insets, turned, opposite, Anywhere, InFlow, BesideAutoInset, BetweenInsets, Placed}
 use Rattle.item_placing.specs.declared.area_item.AreaItem.{AreaItem}
 use Rattle.item_placing.specs.declared.edge.Edge.{Edge}
 use Rattle.item_placing.specs.declared.edge.Edge.TheVariants.{First, Last, Middle}

@@ -1,5 +1,5 @@
 -- What is promised of an item that was placed: a law for each reader's question, above the definition of its place.
-use Rattle.std.specs.Prelude.{◌≡◌, Bool, true, false, ◌&&◌, T, Some, None, Option, Float}
+use Rattle.std.specs.Prelude.{◌≡◌, true, false, ◌&&◌, T, Some, None, Option, Float}
 use Rattle.std.specs.Float.Ieee.{add, sub, le, lt}
 use Rattle.std.specs.Float.{float_max, binary32}
 use Rattle.geometry.specs.declared.AbsoluteAxis.TheVariants.{Horizontal, Vertical}
@@ -11,7 +11,7 @@ use Rattle.style.specs.declared.alignment.AlignmentSafety.TheVariants.{Safe, Uns
 use Rattle.style.specs.declared.alignment.Direction.{Direction}
 use Rattle.style.specs.declared.alignment.Direction.TheVariants.{Ltr, Rtl}
 use Rattle.item_placing.specs.Edges.{start_edge, end_edge}
-use Rattle.item_placing.specs.Blocks.{zero, line, neither, area_size, both_set, direction_of, block_of}
+use Rattle.item_placing.specs.Blocks.{zero, line, neither, area_size, both_set, direction_of}
 use Rattle.item_placing.specs.Margins.{rest_of, halves, at_line_end, with_shim, used_margins}
 use Rattle.item_placing.specs.Places.{overflows, edge_of, offset_at, placed}
 use Rattle.item_placing.specs.declared.area_item.AreaItem.{AreaItem}

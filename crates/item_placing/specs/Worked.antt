@@ -1,11 +1,10 @@
 -- Worked places: an area from 0 to 100, and items in it.
 use Rattle.std.specs.Prelude.{ℕ, Bool, true, ◌&&◌, T, List, [], ◌∷◌, ℤ, pos, negsuc, Some, None, Option, Float}
 use Rattle.std.specs.Float.{binary32}
-use Rattle.std.specs.Float.Ieee.{div, eq, neg, of_int}
+use Rattle.std.specs.Float.Ieee.{div, eq, of_int}
 use Rattle.geometry.specs.declared.AbsoluteAxis.{AbsoluteAxis}
 use Rattle.geometry.specs.declared.AbsoluteAxis.TheVariants.{Horizontal, Vertical}
 use Rattle.geometry.specs.declared.Line.{Line}
-use Rattle.style.specs.declared.alignment.AlignItems.{AlignItems}
 use Rattle.style.specs.declared.alignment.AlignItemsKeyword.{AlignItemsKeyword}
 use Rattle.style.specs.declared.alignment.AlignItemsKeyword.TheVariants.{Start, End, Center}
 use Rattle.style.specs.declared.alignment.AlignmentSafety.{AlignmentSafety}

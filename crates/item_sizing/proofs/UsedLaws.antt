@@ -14,7 +14,7 @@ use Rattle.item_limits.specs.declared.item_axis.SideSizing.{SideSizing}
 use Rattle.item_limits.specs.declared.item_axis.SideSizing.TheVariants.{Given, Content, Stretched, Filled, Free}
 use Rattle.item_questions.specs.Asking.{measured}
 use Rattle.item_questions.specs.declared.fault.ItemFault.{ItemFault}
-use Rattle.item_sizing.specs.Found.{Found, found, then_by}
+use Rattle.item_sizing.specs.Found.{Found, then_by}
 use Rattle.item_sizing.specs.UsedSizes.{used_length, width_question, height_question, width_measured, used_width_by, used_width, height_measured, content_height, used_height_by, used_height, sizes_by_axis, box_source, box_measured, ratio_box_by, ratio_box, box_width, box_height, own_height, used_if_any, sizes_by_ratio, used_sizes_by, used_sizes}
 use Rattle.item_sizing.specs.SizingLaws.{Floor}
 use Rattle.item_sizing.specs.declared.sizing_item.SizingItem.{SizingItem}

@@ -1,5 +1,5 @@
 -- What is promised of the sizes of an item that is laid out.
-use Rattle.std.specs.Prelude.{◌≤◌, T, IfOk, Some, None, Option, Result, Float}
+use Rattle.std.specs.Prelude.{◌≤◌, T, IfOk, Result, Float}
 use Rattle.std.specs.Float.Ieee.{le}
 use Rattle.geometry.specs.declared.Size.{Size}
 use Rattle.tree.specs.Meaning.{Means}

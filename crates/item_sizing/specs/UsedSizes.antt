@@ -1,5 +1,5 @@
 -- The used sizes of an item before it is laid out, and the measurements that they take. A side that is absent is left to the layout.
-use Rattle.std.specs.Prelude.{ℕ, Bool, cond, ◌&&◌, is_some, Some, None, Ok, Err, Option, Result, Float}
+use Rattle.std.specs.Prelude.{cond, ◌&&◌, is_some, Some, None, Ok, Err, Option, Result, Float}
 use Rattle.std.specs.Float.Ieee.{eq}
 use Rattle.std.specs.Option.{unwrap_or}
 use Rattle.geometry.specs.declared.Size.{Size}

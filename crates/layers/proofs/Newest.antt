@@ -10,7 +10,7 @@ use Rattle.style.specs.declared.modes.SizingMode.TheVariants.{ContentSize, Inher
 use Rattle.style.specs.declared.modes.RequestedAxis.{RequestedAxis}
 use Rattle.style.specs.declared.modes.RequestedAxis.TheVariants.{Horizontal, Vertical, Both}
 use Rattle.tree.specs.declared.question.Question.{Question}
-use Rattle.tree.specs.Bits.{same_f32, same_option, same_space, same_size, is_number}
+use Rattle.tree.specs.Bits.{same_f32, same_option, same_space, is_number}
 use Rattle.tree.specs.Questions.{same_mode, same_axis, same_question, every_number, answers_for}
 use Rattle.tree.specs.Meaning.{Means, measures}
 use Rattle.layers.specs.declared.memory.Remembered.{Remembered}

@@ -1,5 +1,5 @@
 -- The tests of a number against powers of two say exactly how large it is.
-use Rattle.std.proofs.Common.{◌≡◌, ℕ, suc, ◌*◌, ◌^◌, ◌≤◌, Bool, true, false, ◌&&◌, T, pos, negsuc, sym, refl, ap, ◌∙◌, subst, le_trans, le_of_eq, mul_comm, arith, lt→ltb}
+use Rattle.std.proofs.Common.{◌≡◌, ℕ, suc, ◌*◌, ◌^◌, ◌≤◌, true, false, T, pos, negsuc, sym, refl, subst, le_trans, le_of_eq, mul_comm, arith, lt→ltb}
 use lib.Ieee.{Float, nan, inf, fin, binary32, up, down, neg, le, of_bits}
 use lib.Ieee.Fits.{and_i, and_l, and_r, down_pos}
 use lib.Ieee.Positive.{positive, first_pos}

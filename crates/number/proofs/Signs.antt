@@ -1,13 +1,13 @@
 -- Which results are not below zero. A zero is not, whatever its sign.
-use Rattle.std.proofs.Common.{◌≡◌, ℕ, ◌+◌, ◌-◌, ◌*◌, ◌<◌, ◌≤◌, Bool, true, false, cond, ◌&&◌, ◌||◌, T, eqb, ltb, ℤ, pos, sym, ap, ◌∙◌, subst, zero-le, le_trans, le_of_eq, mul-pos, not-le_of_lt, arith, eqb→eq, ltb→lt}
-use lib.Ieee.{Float, nan, inf, fin, Format, unlike, up, down, round, neg, sum, add, sub, mul, div, le, is_nan}
+use Rattle.std.proofs.Common.{◌≡◌, ℕ, ◌+◌, ◌-◌, ◌*◌, ◌<◌, ◌≤◌, Bool, true, false, cond, ◌||◌, T, eqb, ltb, ℤ, pos, sym, ap, ◌∙◌, subst, zero-le, le_trans, le_of_eq, mul-pos, not-le_of_lt, arith, eqb→eq, ltb→lt}
+use lib.Ieee.{Float, nan, inf, fin, Format, unlike, up, down, round, sum, add, sub, mul, div, le, is_nan}
 use lib.Ieee.Fits.{down_pos, up_pos}
 use lib.Ieee.Scale.{finite}
 use lib.Ieee.Positive.{positive}
 use Rattle.std.specs.Float as Floats
 use Rattle.std.specs.Float.{float_max}
 use Rattle.std.proofs.num.Values.{round-zero}
-use Rattle.number.proofs.Order.{le_in, le_out, cond_both}
+use Rattle.number.proofs.Order.{le_in, le_out}
 use Rattle.number.proofs.Sizes.{zero_le_round}
 
 abbrev NotBelow : Float → Type 0

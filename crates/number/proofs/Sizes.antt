@@ -1,5 +1,5 @@
 -- A number's size through each operation: a result is rounded once, rounding keeps the order, and n * 2 ^ k rounds to itself.
-use Rattle.std.proofs.Common.{◌≡◌, ℕ, suc, ◌+◌, ◌-◌, ◌*◌, ◌^◌, ◌<◌, ◌≤◌, Bool, true, false, cond, ◌&&◌, T, eqb, ltb, List, [], ◌∷◌, length, pos, sym, refl, ap, ◌∙◌, subst, true≢false, suc-le-suc, le_trans, le_of_eq, mul-le-mul_right, mul_assoc, mul_comm, mul-le-mul, mul-lt-mul_of_pos_right, mul-pos, one-mul, mul-one, le_of_mul-le-mul_right, arith, lit<, eqb→eq, pow_pos, pow-add}
+use Rattle.std.proofs.Common.{◌≡◌, ℕ, suc, ◌+◌, ◌-◌, ◌*◌, ◌^◌, ◌<◌, ◌≤◌, Bool, true, false, cond, ◌&&◌, T, eqb, ltb, List, [], ◌∷◌, length, pos, sym, ap, ◌∙◌, subst, true≢false, suc-le-suc, le_trans, le_of_eq, mul-le-mul_right, mul_assoc, mul_comm, mul-le-mul, mul-lt-mul_of_pos_right, mul-pos, one-mul, mul-one, le_of_mul-le-mul_right, arith, lit<, eqb→eq, pow_pos, pow-add}
 use mathlib.Core.Bool.{beq}
 use native.Mathlib.Nat.{mul-mul-mul_comm}
 use lib.Ieee.{Float, nan, inf, fin, Format, binary32, prec, emax, low, unlike, up, down, round, neg, sum, add, sub, mul, div, le, of_int, of_bits}

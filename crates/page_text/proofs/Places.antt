@@ -1,8 +1,8 @@
 -- What a place holds keeps its range.
-use Rattle.std.proofs.Common.{◌≡◌, ℕ, List, IfSome, Some, None, Option, Result, unwrap_or, sym, subst}
+use Rattle.std.proofs.Common.{ℕ, List, IfSome, Some, None, Option, Result, unwrap_or, sym, subst}
 use Rattle.page_words.specs.declared.keyword.Property.{Property}
 use Rattle.page_words.specs.declared.keyword.Property.TheVariants as property
-use Rattle.page_words.specs.WrittenSizes.{size_in_range, size_read}
+use Rattle.page_words.specs.WrittenSizes.{size_read}
 use Rattle.page_words.proofs.ReadSizes.{size_read_in_range}
 use Rattle.page_text.specs.Containers.{filled, SizeInRange, SidesInRange, Aligns, TextInRange, Takes, Declares}
 use Rattle.page_text.specs.declared.container_text.ContainerText.{ContainerText}

@@ -1,5 +1,5 @@
 -- The range of a draft is that of its page, and that of the page's axes.
-use Rattle.std.proofs.Common.{◌≡◌, ℕ, ◌%◌, ◌≤◌, Bool, true, false, cond, ◌&&◌, T, eqb, List, [], ◌∷◌, IfSome, IfOk, Some, None, Ok, Err, vec_items, vec_len, Option, Result, sym, refl, subst, arith, rules}
+use Rattle.std.proofs.Common.{◌≡◌, ℕ, ◌%◌, Bool, true, false, cond, ◌&&◌, T, eqb, List, [], ◌∷◌, IfSome, IfOk, Some, None, Ok, Err, vec_len, Option, refl, rules}
 use lib.Ieee.{Float, binary32, le, of_bits}
 use Rattle.std.specs.List.{AllByRecursion as All}
 use Rattle.number.specs.Limits.{in_limits}
@@ -8,12 +8,11 @@ use Rattle.tracks.specs.Tracks.{base_sizes}
 use Rattle.tracks.specs.declared.grid_track.GridTrack.{GridTrack}
 use Rattle.page_words.specs.WrittenSizes.{size_in_range}
 use Rattle.page_text.specs.Containers.{no_sides, stretched, with_size, with_width, SizeInRange, SidesInRange, Aligns, TextInRange, ContainerInRange}
-use Rattle.page_text.specs.WrittenTracks.{TrackInRange, TracksInRange}
+use Rattle.page_text.specs.WrittenTracks.{TrackInRange}
 use Rattle.page_text.specs.Pages.{with_tracks, draft_finished, DraftInRange, PageInRange}
 use Rattle.page_text.specs.PageLaws.{AxesInRange}
 use Rattle.page_text.specs.declared.container_text.ContainerText.{ContainerText}
 use Rattle.page_text.specs.declared.read_error.Expected.TheVariants as expected
-use Rattle.page_text.specs.declared.page_description.PageDescription.{PageDescription}
 use Rattle.page_text.specs.declared.reader.Draft.{Draft}
 use Rattle.page_text.proofs.Places.{found_or}
 

@@ -6,7 +6,6 @@ use Rattle.page_text.specs.declared.page_description.ContainerDescription.{Conta
 use Rattle.page_text.specs.declared.page_description.PageDescription.{PageDescription}
 use Rattle.page_text.specs.declared.read_error.Expected.{Expected}
 use Rattle.page_text.specs.declared.read_error.Expected.TheVariants as expected
-use Rattle.page_text.specs.declared.read_error.ReadError.{ReadError}
 use Rattle.page_text.specs.declared.read_error.ReadFault.{ReadFault}
 use Rattle.page_text.specs.declared.read_error.ReadFault.TheVariants.{Unreadable, OutOfMemory}
 use Rattle.page_text.specs.declared.reader.Draft.{Draft}

@@ -1,6 +1,5 @@
 -- One turn and the ends of the loop that reads a decimal.
-use Rattle.std.proofs.Common.{◌≡◌, ℕ, ◌+◌, ◌<◌, ◌≤◌, List, length, get_or, drop, Some, None, Option, sym, ap, ◌∙◌}
-use lib.Ieee.{Float}
+use Rattle.std.proofs.Common.{◌≡◌, ℕ, ◌+◌, ◌<◌, ◌≤◌, List, length, get_or, drop, Some, None, sym, ap, ◌∙◌}
 use Rattle.std.proofs.lemmas.List.{at_drop_more, at_drop_all}
 use Rattle.page_words.specs.Decimals.{and_then, after, after_all, nothing_read, number_read, decimal}
 use Rattle.page_words.specs.declared.decimal.Decimal.{Decimal}

@@ -1,10 +1,10 @@
 -- The first value of a style that is out of its range: group by group, and what it says of every value.
-use Rattle.std.proofs.Common.{◌≡◌, Bool, cond, T, List, [], ◌∷◌, ◌++◌, map, Some, None, Option, sym, refl, ap, ◌∙◌}
+use Rattle.std.proofs.Common.{◌≡◌, Bool, cond, T, List, [], ◌++◌, map, Some, None, Option, sym, refl, ap, ◌∙◌}
 use Rattle.number.specs.Limits.{in_limits}
 use Rattle.geometry.specs.declared.AbsoluteAxis.{AbsoluteAxis}
 use Rattle.geometry.specs.declared.AbsoluteAxis.TheVariants.{Horizontal, Vertical}
-use Rattle.style.specs.FirstFailing.{first_failing, Every}
-use Rattle.style.specs.Ranges.{ratio_in_range, if_any, length_percentage_in_range, length_percentage_auto_in_range, dimension_in_range, sides, side_of, axes}
+use Rattle.style.specs.FirstFailing.{Every}
+use Rattle.style.specs.Ranges.{ratio_in_range, if_any, sides, axes}
 use Rattle.style.specs.Ranges.{field_in_range, reading_order, first_out_of_range, first_by_groups, NamesFirst}
 use Rattle.style.specs.declared.style.Style.{Style}
 use Rattle.style.specs.declared.range.Side.{Side}

@@ -1,5 +1,5 @@
 -- A quotient that is rounded up is the fewest that are enough.
-use Rattle.std.proofs.Common.{◌≡◌, ℕ, zero, suc, ◌+◌, ◌*◌, ◌/◌, ◌%◌, ◌<◌, ◌≤◌, min, ◌⊎◌, ap, inl, inr, ⊎_elim, mod-lt, add-mul, lt_of_mul-lt-mul_right, div-add-mod', le_of_mul-le-mul_right, arith}
+use Rattle.std.proofs.Common.{◌≡◌, ℕ, zero, suc, ◌*◌, ◌/◌, ◌%◌, ◌<◌, ◌≤◌, min, ◌⊎◌, ap, inl, inr, ⊎_elim, mod-lt, add-mul, lt_of_mul-lt-mul_right, div-add-mod', le_of_mul-le-mul_right, arith}
 use Rattle.text_host.specs.Texts.{lines_in}
 
 -- a remainder is none, or takes one more

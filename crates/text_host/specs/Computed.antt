@@ -1,5 +1,5 @@
 -- What a text host means, by its texts: a node's first text answers, and nothing but a size is told of it.
-use Rattle.std.specs.Prelude.{ℕ, List, [], ◌∷◌, ◌++◌, is_some, Some, None, Option, from_bits, Float}
+use Rattle.std.specs.Prelude.{ℕ, List, [], ◌∷◌, ◌++◌, is_some, None, Option, from_bits, Float}
 use Rattle.std.specs.Float.{binary32}
 use Rattle.std.specs.Option.{option_map, option_flatten}
 use Rattle.geometry.specs.declared.Rect.{Rect}

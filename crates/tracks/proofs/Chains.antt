@@ -5,7 +5,6 @@ use Rattle.std.proofs.lemmas.List.{reverse-append, reverse-reverse, map-append}
 use Rattle.tracks.specs.Tracks.{live, begins, begin, positioned, onward, walked}
 use Rattle.tracks.specs.Aligned.{Chain, end, odd_at, any_live, mark_and_size}
 use Rattle.tracks.specs.declared.grid_track.GridTrack.{GridTrack}
-use Rattle.tracks.specs.declared.track_alignment.TrackAlignment.{TrackAlignment}
 use Rattle.tracks.specs.declared.walk.TrackWalk.{TrackWalk}
 
 or_false : (a : Bool) → (a || false) ≡ a

@@ -1,5 +1,5 @@
 -- Within the limits every offset is finite, and tracks do not overlap from the first live one on.
-use Rattle.std.proofs.Common.{◌≡◌, ℕ, zero, suc, ◌+◌, ◌*◌, ◌^◌, ◌<◌, ◌≤◌, Bool, true, false, cond, not, T, eqb, List, [], ◌∷◌, map, reverse, length, get_or, take, sym, refl, ap, ◌∙◌, subst, le_of_suc-le-suc, not-suc-le-zero, mul-le-mul_right, arith, lit<, lit≤}
+use Rattle.std.proofs.Common.{◌≡◌, ℕ, zero, suc, ◌+◌, ◌*◌, ◌^◌, ◌<◌, ◌≤◌, Bool, true, false, cond, not, T, eqb, List, [], ◌∷◌, map, length, get_or, take, sym, refl, ap, ◌∙◌, subst, le_of_suc-le-suc, not-suc-le-zero, mul-le-mul_right, arith, lit<, lit≤}
 use mathlib.Core.List.{reverse_aux}
 use lib.Ieee.{Float, nan, inf, fin, binary32, le, is_nan, fits}
 use lib.Ieee.Fits.{add-fits}
@@ -16,7 +16,7 @@ use Rattle.number.proofs.Sizes.{wider, add_within, sub_within, total_all}
 use Rattle.style.specs.declared.alignment.AlignContent.{AlignContent}
 use Rattle.tracks.specs.Distribution as Distribution
 use Rattle.tracks.specs.Distribution.{used_alignment}
-use Rattle.tracks.specs.Tracks.{plus, live, live_count, base_sizes, used_size_of, free_space_of, along_axis, track_alignment, begins, begin, positioned, onward, walked, start_place, starts_odd, start_walk, in_order, aligned}
+use Rattle.tracks.specs.Tracks.{plus, live, live_count, base_sizes, used_size_of, free_space_of, track_alignment, begins, begin, onward, walked, start_place, starts_odd, start_walk, in_order, aligned}
 use Rattle.tracks.specs.Aligned.{Chain, end, odd_at, any_live, Apart}
 use Rattle.tracks.specs.Laws.{InRange, WellPlaced}
 use Rattle.tracks.specs.declared.grid_track.GridTrack.{GridTrack}

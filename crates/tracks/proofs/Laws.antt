@@ -3,10 +3,9 @@ use Rattle.std.proofs.Common.{◌≡◌, ◌≤◌, Bool, true, false, List, map
 use lib.Ieee.{Float}
 use Rattle.std.proofs.lemmas.List.{reverse-reverse}
 use Rattle.style.specs.declared.alignment.AlignContent.{AlignContent}
-use Rattle.tracks.specs.Tracks.{live_count, free_space_of, track_alignment, start_walk, start_place, starts_odd, in_order, walked, aligned}
+use Rattle.tracks.specs.Tracks.{live_count, free_space_of, track_alignment, start_walk, in_order, walked, aligned}
 use Rattle.tracks.specs.Aligned.{Chain, Aligned, mark_and_size}
 use Rattle.tracks.specs.declared.grid_track.GridTrack.{GridTrack}
-use Rattle.tracks.specs.declared.track_alignment.TrackAlignment.{TrackAlignment}
 use Rattle.tracks.specs.declared.walk.TrackWalk.{TrackWalk}
 use Rattle.tracks.proofs.Chains.{chain, same_along, same_back, map_reverse, only_walk}
 use Rattle.tracks.proofs.Counts.{count_bound}

@@ -1,5 +1,5 @@
 -- The shares of the free space: a gap is only left between two live tracks or more, is not negative, and no share is larger than the space.
-use Rattle.std.proofs.Common.{◌≡◌, ℕ, ◌+◌, ◌-◌, ◌*◌, ◌^◌, ◌<◌, ◌≤◌, Bool, true, false, cond, not, ◌||◌, T, leb, pos, sym, refl, subst, arith, lit<, lit≤}
+use Rattle.std.proofs.Common.{◌≡◌, ℕ, ◌+◌, ◌-◌, ◌*◌, ◌^◌, ◌<◌, ◌≤◌, Bool, true, false, cond, not, ◌||◌, T, leb, sym, refl, subst, arith, lit≤}
 use lib.Dec.{nleb→lt}
 use lib.Ieee.{Float, binary32, round, le, lt, eq, of_int, of_bits}
 use lib.Ieee.Back.{round_whole}
@@ -16,7 +16,7 @@ use Rattle.style.specs.declared.alignment.AlignContent.{AlignContent}
 use Rattle.style.specs.declared.alignment.AlignmentSafety.{AlignmentSafety}
 use Rattle.style.specs.declared.alignment.AlignContentKeyword.{AlignContentKeyword}
 use Rattle.style.specs.declared.alignment.AlignContentKeyword.TheVariants.{Normal, Start, End, FlexStart, FlexEnd, Center, Stretch, SpaceBetween, SpaceEvenly, SpaceAround}
-use Rattle.tracks.specs.Distribution.{zero, two, count, per, behaves_as, fallback, cannot_distribute, overflow_position, used_alignment, first_share_of, gap}
+use Rattle.tracks.specs.Distribution.{zero, two, count, per, fallback, overflow_position, used_alignment, first_share_of, gap}
 use Rattle.tracks.specs.Tracks.{along_axis}
 
 -- ---- which keywords leave gaps

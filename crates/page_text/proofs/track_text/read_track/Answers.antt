@@ -1,4 +1,4 @@
-use Rattle.std.proofs.Common.{◌≡◌, true, ◌++◌, IfSome, Some, codes, sym, refl, ap, ◌∙◌, subst}
+use Rattle.std.proofs.Common.{true, ◌++◌, IfSome, Some, codes, sym, refl, ap, ◌∙◌, subst}
 use Rattle.std.specs.Option.{option_map}
 use Rattle.page_text.specs.WrittenTracks.{unplaced, TrackInRange}
 use Rattle.page_text.proofs.WordsOfTracks.{enclosed_read}

@@ -1,4 +1,4 @@
-use Rattle.std.proofs.Common.{◌≡◌, sym, ap, ◌∙◌}
+use Rattle.std.proofs.Common.{sym, ap, ◌∙◌}
 use Rattle.page_words.specs.Decimals.{decimal}
 use Rattle.page_words.proofs.Decimals.{goes_on, stops, ends}
 use Rattle.page_words.proofs.decimal.read_decimal.Goals as goal

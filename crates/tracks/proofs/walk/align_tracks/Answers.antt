@@ -1,9 +1,7 @@
-use Rattle.std.proofs.Common.{◌≡◌, List, sym, ◌∙◌, subst, rules}
-use lib.Ieee.{Float}
+use Rattle.std.proofs.Common.{◌≡◌, sym, ◌∙◌, subst, rules}
 use Rattle.tracks.specs.Tracks.{plus, aligned}
 use Rattle.tracks.specs.Aligned.{Aligned}
 use Rattle.tracks.specs.Laws.{WellPlaced}
-use Rattle.tracks.specs.declared.grid_track.GridTrack.{GridTrack}
 use Rattle.tracks.proofs.Laws.{aligned_law, only_aligned}
 use Rattle.tracks.proofs.Finite.{well_placed}
 use Rattle.tracks.proofs.walk.align_tracks.Goals as goal

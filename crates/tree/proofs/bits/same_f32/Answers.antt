@@ -1,4 +1,4 @@
-use Rattle.std.proofs.Common.{◌≡◌, T, sym, ap, ◌∙◌, subst, rules, eq-eqb, eqb-true}
+use Rattle.std.proofs.Common.{T, sym, ap, ◌∙◌, subst, rules, eq-eqb, eqb-true}
 use lib.Ieee.{binary32, fits, of_bits, to_bits}
 use lib.Ieee.Bits.{of_bits-to_bits}
 use Rattle.tree.proofs.bits.same_f32.Goals as goal

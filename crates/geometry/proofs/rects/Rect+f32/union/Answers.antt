@@ -1,7 +1,5 @@
 -- The law of `union_of` is the law of the result.
 use Rattle.std.proofs.Common.{sym, subst}
-use lib.Ieee.{Float}
-use Rattle.geometry.specs.declared.Rect.{Rect}
 use Rattle.geometry.specs.Holds.{SmallestAround}
 use Rattle.geometry.proofs.Unions.{union_smallest}
 use Rattle.geometry.proofs.rects.Rect+f32.union.Goals as goal

@@ -1,5 +1,4 @@
 use Rattle.std.proofs.Common.{IfOk, Result, sym, subst}
-use lib.Ieee.{Float}
 use Rattle.item_questions.specs.declared.fault.ItemFault.{ItemFault}
 use Rattle.item_sizing.specs.SizingLaws.{NotBelow}
 use Rattle.item_sizing.specs.declared.laid_out.LaidOutItem.{LaidOutItem}

@@ -1,4 +1,4 @@
-use Rattle.std.proofs.Common.{◌≡◌, ℕ, ◌+◌, ap, sym, ◌∙◌, rules}
+use Rattle.std.proofs.Common.{◌≡◌, ℕ, ap, sym, ◌∙◌, rules}
 use Rattle.tree.specs.Meaning.{raise}
 use Rattle.item_sizing.specs.LaidOut.{laid_out_with}
 use Rattle.item_sizing.proofs.Raises.{raise_raise}
