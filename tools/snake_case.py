@@ -89,10 +89,25 @@ def names_in(text):
     return set(m.group(0) for m in TOKEN.finditer(text) if text[m.start() - 1:m.start()] != ".")
 
 
+def untouched(text):
+    """The places of strings, and of comments but for the names that they quote."""
+    places = set()
+    for m in re.finditer(r'"[^"\n]*"', text):
+        places.update(range(*m.span()))
+    for m in re.finditer(r"--(?![^\n]*\").*", text):
+        places.update(range(*m.span()))
+        for q in re.finditer(r"`[^`\n]*`", m.group(0)):
+            places.difference_update(range(m.start() + q.start(), m.start() + q.end()))
+    return places
+
+
 def turned(text, names, report, path):
     out, at = [], 0
+    kept = untouched(text)
     for m in TOKEN.finditer(text):
         word = m.group(0)
+        if m.start() in kept:
+            continue
         if word in names and spelled(word) != word:
             before = text[max(0, m.start() - 60):m.start()]
             if re.search(r"\b(goal|need)\.$", before) or re.search(r"(?<![\w'-])c(\.[\w'-]+)*\.$", before):

@@ -1,4 +1,4 @@
--- The stretch_fit size is not negative, and a side that fills the space is that size.
+-- The stretch-fit size is not negative, and a side that fills the space is that size.
 use Rattle.std.proofs.Common.{◌≡◌, Bool, true, false, cond, T, Some, None, Option, refl}
 use lib.Ieee.{Float, le, is_nan, of_bits}
 use Rattle.style.specs.declared.alignment.AlignItemsKeyword.{AlignItemsKeyword}

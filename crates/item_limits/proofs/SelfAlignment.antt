@@ -1,4 +1,4 @@
--- An alignment in the words of the container has no self_relative keyword, and is otherwise kept.
+-- An alignment in the words of the container has no self-relative keyword, and is otherwise kept.
 use Rattle.std.proofs.Common.{◌≡◌, Bool, true, false, not, T, refl}
 use Rattle.style.specs.declared.alignment.AlignItems.{AlignItems}
 use Rattle.style.specs.declared.alignment.AlignItemsKeyword.{AlignItemsKeyword}

@@ -7,7 +7,7 @@ use Rattle.item_limits.specs.declared.item_axis.SideSizing.{SideSizing}
 use Rattle.item_limits.specs.declared.item_axis.SideSizing.TheVariants.{Given, Content, Stretched, Filled, Free}
 use Rattle.item_limits.specs.ItemAxes.{zero, stretch_fit_size, can_fill}
 
--- its border box is the stretch_fit size, and nothing else along the axis is auto
+-- its border box is the stretch-fit size, and nothing else along the axis is auto
 pub record Fills (a : ItemAxis) (s : SideLength) : Type 0 where
   pub stretch_fit : s.border ≡ stretch_fit_size a
   pub not_negative : T (le zero s.border)

@@ -12,7 +12,7 @@ use Rattle.item_limits.specs.RatioBoxes.{box_of_width, limited_box}
 abbrev pub whole : ℕ → Float
 whole n = of_int binary32 (pos n)
 
--- border_box, with no padding or border
+-- border-box, with no padding or border
 abbrev pub limits : (min max : Option Float) → Limits
 limits min max = limits_of min max (whole 0) (whole 0)
 

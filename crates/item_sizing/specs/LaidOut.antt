@@ -18,7 +18,7 @@ use Rattle.item_sizing.specs.UsedSizes.{question, ratio_of, used_sizes}
 use Rattle.item_sizing.specs.declared.sizing_item.SizingItem.{SizingItem}
 use Rattle.item_sizing.specs.declared.laid_out.LaidOutItem.{LaidOutItem}
 
--- both axes, in the stretch_fit space
+-- both axes, in the stretch-fit space
 abbrev pub whole_question : SizingItem → Size (Option Float) → Question
 whole_question i known = question i known (record { width = Definite i.space.width; height = Definite i.space.height }) Both
 

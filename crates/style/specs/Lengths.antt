@@ -25,7 +25,7 @@ auto_dimension (size.FitContentPx x) = false
 auto_dimension (size.FitContentPercent x) = false
 auto_dimension (size.FitContentCalc handle) = false
 
--- min_content, max_content, stretch, fit-content and fit-content(..)
+-- min-content, max-content, stretch, fit-content and fit-content(..)
 abbrev pub sizing_keyword : Dimension → Bool
 sizing_keyword size.Auto = false
 sizing_keyword size.Content = false
