@@ -1,6 +1,6 @@
 -- Why an item cannot be placed, and the number of each reason: 11 where the host did not answer, 12 where a number is out of limits or range.
 use Rattle.std.specs.Prelude.{ℕ}
-use Rattle.item_lengths.specs.declared.CalcOutOfLimits as length
+use Rattle.item_lengths.specs.declared.CalcOutOfLimits as lengths
 use Rattle.tree.specs.declared.fault.HostFault.{HostFault}
 use Rattle.item_questions.specs.declared.fault.ItemFault.{ItemFault}
 use Rattle.item_questions.specs.declared.fault.ItemFault.TheVariants.{Host, StyleOutOfRange, CalcOutOfLimits, SizeOutOfLimits, LayoutOutOfLimits, CandidateOutOfLimits}
@@ -17,5 +17,5 @@ fault_number (CandidateOutOfLimits i) = 12
 abbrev pub from_host : HostFault → ItemFault
 from_host f = Host f
 
-abbrev pub from_calc : length.CalcOutOfLimits → ItemFault
+abbrev pub from_calc : lengths.CalcOutOfLimits → ItemFault
 from_calc f = CalcOutOfLimits f.handle

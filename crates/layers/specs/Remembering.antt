@@ -1,6 +1,6 @@
 -- What a cache remembers: measurements that were answered, the oldest first, 64 at most.
 use Rattle.std.specs.Prelude.{◌≡◌, cond, List, [], ◌∷◌, ◌++◌, length, drop, Some, None, Ok, Err, Option, Result, nat_lt, Float}
-use Rattle.std.specs.List.{AllByRecursion as All}
+use Rattle.std.specs.List.{AllByRecursion}
 use Rattle.geometry.specs.declared.Size.{Size}
 use Rattle.tree.specs.declared.question.Question.{Question}
 use Rattle.tree.specs.declared.fault.HostFault.{HostFault}
@@ -44,4 +44,4 @@ abbrev pub Right : Means → Remembered → Type 0
 Right m e = measures m e.question ≡ Ok e.size
 
 abbrev pub AllRight : Means → List Remembered → Type 0
-AllRight m es = All (Right m) es
+AllRight m es = AllByRecursion (Right m) es

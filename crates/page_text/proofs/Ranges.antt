@@ -1,7 +1,7 @@
 -- The range of a draft is that of its page, and that of the page's axes.
 use Rattle.std.proofs.Common.{◌≡◌, ℕ, ◌%◌, Bool, true, false, cond, ◌&&◌, T, eqb, List, [], ◌∷◌, IfSome, IfOk, Some, None, Ok, Err, vec_len, Option, refl, rules}
 use lib.Ieee.{Float, binary32, le, of_bits}
-use Rattle.std.specs.List.{AllByRecursion as All}
+use Rattle.std.specs.List.{AllByRecursion}
 use Rattle.number.specs.Limits.{in_limits}
 use Rattle.number.specs.Sizes.{Each}
 use Rattle.tracks.specs.Tracks.{base_sizes}
@@ -69,7 +69,7 @@ both_second false b h = absurd h
 limited : (x : Float) → SizeInRange x → T (in_limits x)
 limited x h = both_second (le (of_bits binary32 0) x) (in_limits x) h
 
-sizes_limited : (ts : List GridTrack) → All TrackInRange ts → Each (λ x. T (in_limits x)) (base_sizes ts)
+sizes_limited : (ts : List GridTrack) → AllByRecursion TrackInRange ts → Each (λ x. T (in_limits x)) (base_sizes ts)
 sizes_limited [] h = tt
 sizes_limited (t ∷ ts) h = (limited t.base_size h.0.track_size, sizes_limited ts h.1)
 

@@ -4,7 +4,7 @@ use Rattle.std.specs.Float.{binary32}
 use Rattle.std.specs.Option.{option_map}
 use Rattle.std.specs.Char.{is_whitespace, is_not_whitespace}
 use Rattle.std.specs.Str.{NoCharPasses, EmptyOrStartsWithPassing}
-use Rattle.std.specs.List.{AllByRecursion as All}
+use Rattle.std.specs.List.{AllByRecursion}
 use Rattle.tracks.specs.declared.grid_track.GridTrack.{GridTrack}
 use Rattle.page_words.specs.WrittenSizes.{size_in_range, size_read}
 
@@ -25,7 +25,7 @@ pub record TrackInRange (t : GridTrack) : Type 0 where
 -- the tracks of an axis so far
 pub record TracksInRange (ts : List GridTrack) : Type 0 where
   pub few : length ts ≤ 513
-  pub each : All TrackInRange ts
+  pub each : AllByRecursion TrackInRange ts
 
 -- w is the first word of a text, and the rest follows it
 pub record FirstWord (text w rest : List ℕ) : Type 0 where
