@@ -1,9 +1,9 @@
--- The order of floats: as an order of whole numbers at finite values, total, with `most` the least upper bound and `least` the greatest lower one.
+-- The order of floats: as an order of whole numbers at finite values, total, with `float_max` the least upper bound and `float_min` the greatest lower one.
 use Rattle.std.proofs.Common.{◌≡◌, ℕ, ◌+◌, ◌*◌, ◌<◌, ◌≤◌, Bool, true, false, cond, not, ◌&&◌, ◌||◌, T, eqb, ltb, ◌⊎◌, ℤ, sym, inl, inr, le_of_eq, le_of_lt, arith, eqb→eq, ltb→lt, nltb→le}
 use lib.Ieee.{Float, fin, up, down, le, lt, is_nan}
 use lib.Ieee.Fits.{and_i, and_l, and_r, eq→eqb}
 use Rattle.std.specs.Float.{float_max, float_min}
-use Rattle.std.specs.Float.Order.{le_refl, le_of_lt as le-of-lt-float, lt_of_not-le}
+use Rattle.std.specs.Float.Order.{le_refl, le_of_lt as le_of_lt_float, lt_of_not-le}
 
 -- what holds of both holds of the one that a test chooses
 pub cond_both : {X : Type 0} (P : X → Type 0) (b : Bool) (x y : X) → P x → P y → P (cond b x y)
@@ -89,7 +89,7 @@ le_total x y p q = go (le x y) (λ t. t) (lt_of_not-le x y p q)
   where
     go : (b : Bool) → (T b → T (le x y)) → (T (not b) → T (lt y x)) → T (le x y) ⊎ T (le y x)
     go true h k = inl (h tt)
-    go false h k = inr (le-of-lt-float y x (k tt))
+    go false h k = inr (le_of_lt_float y x (k tt))
 
 -- ---- the larger and the smaller of two
 
@@ -99,7 +99,7 @@ le_most_left x y p q = go (le y x) (is_nan y) (lt_of_not-le y x q p) q
     go : (b n : Bool) → (T (not b) → T (lt x y)) → T (not n) → T (le x (cond (b || n) x y))
     go true n k h = le_refl x p
     go false true k h = absurd h
-    go false false k h = le-of-lt-float x y (k tt)
+    go false false k h = le_of_lt_float x y (k tt)
 
 pub le_most_right : (x y : Float) → T (not (is_nan x)) → T (not (is_nan y)) → T (le y (float_max x y))
 le_most_right x y p q = go (le y x) (is_nan y) (λ t. t) q
@@ -118,7 +118,7 @@ least_le_left x y p q = go (le x y) (is_nan y) (lt_of_not-le x y p q) q
     go : (b n : Bool) → (T (not b) → T (lt y x)) → T (not n) → T (le (cond (b || n) x y) x)
     go true n k h = le_refl x p
     go false true k h = absurd h
-    go false false k h = le-of-lt-float y x (k tt)
+    go false false k h = le_of_lt_float y x (k tt)
 
 pub least_le_right : (x y : Float) → T (not (is_nan x)) → T (not (is_nan y)) → T (le (float_min x y) y)
 least_le_right x y p q = go (le x y) (is_nan y) (λ t. t) q

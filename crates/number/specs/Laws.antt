@@ -24,7 +24,7 @@ pub record Sizes : Type 0 where
   pub smaller : (n k : ℕ) (x y : Float) → Within n k x → Within n k y → Within n k (float_min x y)
   pub sums_of_many : (k : ℕ) (xs : List Float) → Holdable (length xs) k → Each (Bounded k) xs → Within (length xs) k (total xs)
 
--- `le` orders all values but NaN, the two zeros alike; `most` is the least upper bound of two, `least` the greatest lower bound.
+-- `le` orders all values but NaN, the two zeros alike; `float_max` is the least upper bound of two, `float_min` the greatest lower bound.
 pub record Order : Type 0 where
   pub reflexive : (x : Float) → T (not (is_nan x)) → T (le x x)
   pub transitive : (x y z : Float) → T (le x y) → T (le y z) → T (le x z)

@@ -19,7 +19,7 @@ pub record Stated (statement rest : List ℕ) (d e : Draft) (r : Result (Unit {0
   pub rows_alone : statement ≡ codes "rows" → (e.container ≡ d.container) × (e.columns ≡ d.columns)
   pub columns_go_on : statement ≡ codes "columns" → OnOk r (GoesOn rest (vec_items d.columns) (vec_items e.columns))
   pub rows_go_on : statement ≡ codes "rows" → OnOk r (GoesOn rest (vec_items d.rows) (vec_items e.rows))
-  pub nothing_else : (statement ≢ codes "container") → (statement ≢ codes "columns") → (statement ≢ codes "rows") → e ≡ d
+  pub nothing_else : statement ≢ codes "container" → statement ≢ codes "columns" → statement ≢ codes "rows" → e ≡ d
 
 -- ---- the end of the description
 

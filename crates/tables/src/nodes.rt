@@ -28,7 +28,7 @@ pub struct Slot<R> {
 }
 
 impl<R: OfNode> Keyed<u64> for Slot<R> {
-    ghost fits = { λ s n. (R.OfNode.names s.held == n) };
+    ghost fits = { λ s n. R.OfNode.names s.held == n };
 
     fn is_for(&self, node: &u64) -> bool {
         self.held.node() == *node
