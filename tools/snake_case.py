@@ -47,10 +47,6 @@ def spelled(name):
     return name.replace("-", "_")
 
 
-def is_answers(path):
-    return os.path.basename(path) in ("Answers.antt", "Invariants.antt", "Proof.antt", "Choices.antt")
-
-
 def defined(path):
     """The names that a file of specs/ or proofs/ declares, goals and invariants of Rattle's left out."""
     names = set()
@@ -137,7 +133,7 @@ def main():
     crates = {os.path.basename(c) for c in glob.glob("crates/*")}
     specs = list(files(".antt", "specs", "proofs"))
     own = BOUND.union(*(defined(p) for p in specs))
-    news, report, clashes, writes = {}, [], [], {}
+    report, clashes, writes = [], [], {}
     for path in specs + list(files(".rt", "src")):
         text = read(path)
         names = own - foreign(text, crates)
@@ -163,7 +159,7 @@ def main():
         print(line)
     for line in sorted(set(clashes)):
         print("fall together:", line)
-    if clashes and "--anyway" not in sys.argv and not dry:
+    if clashes and not dry:
         raise SystemExit("nothing written")
     if not dry:
         for path, text in writes.items():
