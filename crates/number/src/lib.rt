@@ -5,14 +5,24 @@ pub mod laws;
 
 ghost use Rattle.std.specs.Prelude.{◌≡◌};
 ghost use Rattle.std.specs.Float.{float_max, float_min};
-ghost use Rattle.number.specs.Limits.{in_limits};
+ghost use Rattle.number.specs.Limits.{within, in_limits};
 ghost use Rattle.number.specs.Zeros.{without_zero_sign};
+
+// The most that a number of a page may be in magnitude, 2 ^ 20.
+pub const LIMIT: f32 = 1048576.0;
+
+// At most `bound` in magnitude. No NaN is.
+pub fn is_within(x: f32, bound: f32) -> bool
+    ensures { result ≡ within bound x }
+{
+    x <= bound && -bound <= x
+}
 
 // Finite, and at most 1,048,576 in magnitude.
 pub fn in_limits(x: f32) -> bool
     ensures { result ≡ in_limits x }
 {
-    x <= 1048576.0 && -1048576.0 <= x
+    is_within(x, LIMIT)
 }
 
 // The number itself, but for a negative zero, which becomes the positive one.
@@ -22,7 +32,7 @@ pub fn without_zero_sign(x: f32) -> f32
     if x == 0.0 { 0.0 } else { x }
 }
 
-// The larger of two; where one is a NaN, the other.
+// The larger of two; where one is a NaN, the other. Written beside `f32_min`, as std's `max` and `min` are: a flag for the two would be no plainer.
 pub fn f32_max(a: f32, b: f32) -> f32
     ensures { result ≡ float_max a b }
 {
