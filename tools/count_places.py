@@ -18,7 +18,7 @@ LINES = [  # (point, name, pattern of one line)
     (3, "loops", r"^ *(for|while|loop) "),
     (3, "counters", r"\+= 1\b|saturating_add\(1\)|= !(self\.)?odd"),
     (4, "equality", r" as u8 ==|fn (is_)?same_?[a-z0-9]*\("),
-    (4, "words", r"-> &'static str|fn [a-z_]+_named\("),
+    (4, "words", r"-> &'static str|fn [a-z_]+_named\(word"),
     (4, "numbers", r"fn number\(self\) -> u"),
     (4, "matches", r"matches!\("),
     (6, "indexed", r"[a-z_]\[[a-z_]+\]|\.remove\(0\)"),
@@ -55,7 +55,8 @@ def functions(text):
         text_of = "\n".join(lines[at : end + 1])
         opened = re.search(r"(^ *\{$|\) (-> [^\n]*)?\{$)", text_of, re.M)
         body = text_of[opened.end() :] if opened else ""
-        params = re.findall(r"(\w+): [^,)\n]+", text_of.split("->")[0].split("ensures")[0])
+        head_of = re.split(r"->|\n *(?:requires|ensures)\b|\n *\{", re.sub(r"<[^()]*>\(", "(", text_of, count=1))[0]
+        params = re.findall(r"\b([a-z]\w*): [^,)\n]+", head_of)
         yield at + 1, head.group(5), params, clauses, body
 
 
