@@ -47,23 +47,17 @@ length_percentage_in_range (lp.Calc handle) = true
 
 abbrev pub length_percentage_auto_in_range : LengthPercentageAuto → Bool
 length_percentage_auto_in_range lpa.Auto = true
-length_percentage_auto_in_range (lpa.Px x) = in_limits x
-length_percentage_auto_in_range (lpa.Percent x) = fraction_in_range x
-length_percentage_auto_in_range (lpa.Calc handle) = true
+length_percentage_auto_in_range (lpa.Length length) = length_percentage_in_range length
 
 abbrev pub dimension_in_range : Dimension → Bool
 dimension_in_range dim.Auto = true
 dimension_in_range dim.Content = true
-dimension_in_range (dim.Px x) = in_limits x
-dimension_in_range (dim.Percent x) = fraction_in_range x
-dimension_in_range (dim.Calc handle) = true
+dimension_in_range (dim.Length length) = length_percentage_in_range length
 dimension_in_range dim.MinContent = true
 dimension_in_range dim.MaxContent = true
 dimension_in_range dim.Stretch = true
 dimension_in_range dim.FitContent = true
-dimension_in_range (dim.FitContentPx x) = in_limits x
-dimension_in_range (dim.FitContentPercent x) = fraction_in_range x
-dimension_in_range (dim.FitContentCalc handle) = true
+dimension_in_range (dim.FitContentFunction length) = length_percentage_in_range length
 
 abbrev pub sides : List Side
 sides = Left ∷ Right ∷ Top ∷ Bottom ∷ []

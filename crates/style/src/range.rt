@@ -10,7 +10,7 @@ use crate::style::Style;
 use geometry::{AbsoluteAxis, Rect, Size};
 
 // A side of a box.
-#[derive(Clone, Copy)]
+#[derive(Clone, Copy, Debug, PartialEq, Eq)]
 pub enum Side {
     Left,
     Right,
@@ -43,10 +43,7 @@ pub fn percent_in_range(fraction: f32) -> bool
 pub fn aspect_ratio_in_range(ratio: Option<f32>) -> bool
     ensures { result ≡ if_any ratio_in_range ratio }
 {
-    match ratio {
-        Some(ratio) => 0.0009765625 <= ratio && ratio <= 1024.0,
-        None => true,
-    }
+    ratio.is_none_or(|ratio| 0.0009765625 <= ratio && ratio <= 1024.0)
 }
 
 // A length whose number, if it has one, can be out of range. A calculation has none, and no keyword has.
@@ -74,9 +71,8 @@ impl InRange for LengthPercentageAuto {
 
     fn in_range(&self) -> bool {
         match *self {
-            LengthPercentageAuto::Px(x) => number::in_limits(x),
-            LengthPercentageAuto::Percent(x) => percent_in_range(x),
-            LengthPercentageAuto::Auto | LengthPercentageAuto::Calc(_) => true,
+            LengthPercentageAuto::Auto => true,
+            LengthPercentageAuto::Length(length) => length.in_range(),
         }
     }
 }
@@ -86,8 +82,7 @@ impl InRange for Dimension {
 
     fn in_range(&self) -> bool {
         match *self {
-            Dimension::Px(x) | Dimension::FitContentPx(x) => number::in_limits(x),
-            Dimension::Percent(x) | Dimension::FitContentPercent(x) => percent_in_range(x),
+            Dimension::Length(length) | Dimension::FitContentFunction(length) => length.in_range(),
             _ => true,
         }
     }
