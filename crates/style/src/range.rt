@@ -88,69 +88,61 @@ impl InRange for Dimension {
     }
 }
 
+// What stands at a side.
+fn side_of<L>(rect: &Rect<L>, side: Side) -> &L
+    ensures { result.now ≡ side_of rect.now side }
+{
+    match side {
+        Side::Left => &rect.left,
+        Side::Right => &rect.right,
+        Side::Top => &rect.top,
+        Side::Bottom => &rect.bottom,
+    }
+}
+
+// The extent along an axis.
+fn extent_of<L>(size: &Size<L>, axis: AbsoluteAxis) -> &L
+    ensures { result.now ≡ extent axis size.now }
+{
+    match axis {
+        AbsoluteAxis::Horizontal => &size.width,
+        AbsoluteAxis::Vertical => &size.height,
+    }
+}
+
 // The first of left, right, top and bottom that is out of range.
 fn first_side_out_of_range<L: InRange>(rect: &Rect<L>) -> Option<Side>
     ensures { result ≡ first_failing (λ side. L.InRange.allowed (side_of rect.now side)) sides }
 {
-    if !rect.left.in_range() {
-        return Some(Side::Left);
-    }
-    if !rect.right.in_range() {
-        return Some(Side::Right);
-    }
-    if !rect.top.in_range() {
-        return Some(Side::Top);
-    }
-    if !rect.bottom.in_range() {
-        return Some(Side::Bottom);
-    }
-    None
+    [Side::Left, Side::Right, Side::Top, Side::Bottom]
+        .into_iter()
+        .find(|side| !side_of(rect, *side).in_range())
 }
 
 // The first of width and height that is out of range.
 fn first_extent_out_of_range<L: InRange>(size: &Size<L>) -> Option<AbsoluteAxis>
     ensures { result ≡ first_failing (λ axis. L.InRange.allowed (extent axis size.now)) axes }
 {
-    if !size.width.in_range() {
-        return Some(AbsoluteAxis::Horizontal);
-    }
-    if !size.height.in_range() {
-        return Some(AbsoluteAxis::Vertical);
-    }
-    None
+    [AbsoluteAxis::Horizontal, AbsoluteAxis::Vertical]
+        .into_iter()
+        .find(|axis| !extent_of(size, *axis).in_range())
 }
 
 fn first_by_groups(style: &Style) -> Option<StyleField>
     ensures { result ≡ first_by_groups style.now }
 {
-    if !number::in_limits(style.scrollbar_width) {
-        return Some(StyleField::ScrollbarWidth);
-    }
-    if !aspect_ratio_in_range(style.aspect_ratio) {
-        return Some(StyleField::AspectRatio);
-    }
-    if let Some(side) = first_side_out_of_range(&style.inset) {
-        return Some(StyleField::Inset(side));
-    }
-    if let Some(side) = first_side_out_of_range(&style.padding) {
-        return Some(StyleField::Padding(side));
-    }
-    if let Some(side) = first_side_out_of_range(&style.border) {
-        return Some(StyleField::Border(side));
-    }
-    if let Some(axis) = first_extent_out_of_range(&style.size) {
-        return Some(StyleField::Size(axis));
-    }
-    if let Some(axis) = first_extent_out_of_range(&style.min_size) {
-        return Some(StyleField::MinSize(axis));
-    }
-    if let Some(axis) = first_extent_out_of_range(&style.max_size) {
-        return Some(StyleField::MaxSize(axis));
-    }
-    if let Some(side) = first_side_out_of_range(&style.margin) {
-        return Some(StyleField::Margin(side));
-    }
-    None
+    let scrollbar_width_in_range = number::in_limits(style.scrollbar_width);
+    let aspect_ratio_in_range = aspect_ratio_in_range(style.aspect_ratio);
+    (!scrollbar_width_in_range)
+        .then_some(StyleField::ScrollbarWidth)
+        .or((!aspect_ratio_in_range).then_some(StyleField::AspectRatio))
+        .or_else(|| first_side_out_of_range(&style.inset).map(StyleField::Inset))
+        .or_else(|| first_side_out_of_range(&style.padding).map(StyleField::Padding))
+        .or_else(|| first_side_out_of_range(&style.border).map(StyleField::Border))
+        .or_else(|| first_extent_out_of_range(&style.size).map(StyleField::Size))
+        .or_else(|| first_extent_out_of_range(&style.min_size).map(StyleField::MinSize))
+        .or_else(|| first_extent_out_of_range(&style.max_size).map(StyleField::MaxSize))
+        .or_else(|| first_side_out_of_range(&style.margin).map(StyleField::Margin))
 }
 
 // The first value of the style, in the order in which placing an item reads them, whose number is out of range.
