@@ -3,18 +3,40 @@ use Rattle.std.proofs.Common.{◌≡◌, Bool, true, false, not, cond, T, List, 
 use Rattle.std.specs.List.{All}
 use Rattle.std.specs.Bool.{then_some}
 use Rattle.std.specs.Option.{option_map, option_or}
+use Rattle.number.specs.Limits.{in_limits}
+use Rattle.geometry.specs.Shapes.{extent}
 use Rattle.std.proofs.lemmas.List.Folds.{find-append}
 use Rattle.geometry.specs.declared.AbsoluteAxis.{AbsoluteAxis}
 use Rattle.geometry.specs.declared.AbsoluteAxis.TheVariants.{Horizontal, Vertical}
 use Rattle.style.specs.FirstFailing.{first_failing}
-use Rattle.style.specs.Ranges.{sides, axes}
-use Rattle.style.specs.Ranges.{field_in_range, reading_order, first_out_of_range, first_by_groups, NamesFirst}
+use Rattle.style.specs.Ranges.{ratio_in_range, if_any, length_percentage_in_range, length_percentage_auto_in_range, dimension_in_range, side_of, sides, axes}
+use Rattle.style.specs.Ranges.{field_in_range, reading_order, first_out_of_range, NamesFirst}
 use Rattle.style.specs.declared.style.Style.{Style}
 use Rattle.style.specs.declared.range.Side.{Side}
 use Rattle.style.specs.declared.range.Side.TheVariants.{Left, Right, Top, Bottom}
 use Rattle.style.specs.declared.range.StyleField.{StyleField}
 use Rattle.style.specs.declared.range.StyleField.TheVariants as field
 use Rattle.style.proofs.FirstFailing.{renamed, none_fails, all_pass, named_first}
+
+-- the first value out of range, value by value and then group by group
+abbrev pub first_side : (Side → StyleField) → (Side → Bool) → Option StyleField
+first_side name passes = option_map name (first_failing passes sides)
+
+abbrev pub first_extent : (AbsoluteAxis → StyleField) → (AbsoluteAxis → Bool) → Option StyleField
+first_extent name passes = option_map name (first_failing passes axes)
+
+abbrev pub first_by_groups : Style → Option StyleField
+first_by_groups s =
+    option_or (option_or (option_or (option_or (option_or (option_or (option_or (option_or
+    (then_some (not (in_limits s.scrollbar_width)) field.ScrollbarWidth)
+    (then_some (not (if_any ratio_in_range s.aspect_ratio)) field.AspectRatio))
+    (first_side field.Inset (λ side. length_percentage_auto_in_range (side_of s.inset side))))
+    (first_side field.Padding (λ side. length_percentage_in_range (side_of s.padding side))))
+    (first_side field.Border (λ side. length_percentage_in_range (side_of s.border side))))
+    (first_extent field.Size (λ axis. dimension_in_range (extent axis s.size))))
+    (first_extent field.MinSize (λ axis. dimension_in_range (extent axis s.min_size))))
+    (first_extent field.MaxSize (λ axis. dimension_in_range (extent axis s.max_size))))
+    (first_side field.Margin (λ side. length_percentage_auto_in_range (side_of s.margin side)))
 
 -- a group at the end: what stands before it answers, or else the group does, in the words of the whole
 grouped : {X Y : Type 0} (passes : Y → Bool) (f : X → Y) (xs : List X) (front : List Y) (answer : Option Y) → first_failing passes front ≡ answer

@@ -1,8 +1,6 @@
 -- The range of each number of a style, and the first value of a style that is out of its own.
-use Rattle.std.specs.Prelude.{◌≡◌, Bool, true, not, ◌&&◌, T, List, [], ◌∷◌, ◌++◌, map, Some, None, Option, from_bits, Float}
+use Rattle.std.specs.Prelude.{◌≡◌, Bool, true, ◌&&◌, T, List, [], ◌∷◌, ◌++◌, map, Some, None, Option, from_bits, Float}
 use Rattle.std.specs.Float.{binary32}
-use Rattle.std.specs.Option.{option_map, option_or}
-use Rattle.std.specs.Bool.{then_some}
 use Rattle.std.specs.Float.Ieee.{le, neg}
 use Rattle.number.specs.Limits.{in_limits}
 use Rattle.geometry.specs.Shapes.{extent}
@@ -97,26 +95,6 @@ reading_order =
 
 unfoldable pub first_out_of_range : Style → Option StyleField
 first_out_of_range s = first_failing (field_in_range s) reading_order
-
--- the same, value by value and then group by group
-abbrev pub first_side : (Side → StyleField) → (Side → Bool) → Option StyleField
-first_side name passes = option_map name (first_failing passes sides)
-
-abbrev pub first_extent : (AbsoluteAxis → StyleField) → (AbsoluteAxis → Bool) → Option StyleField
-first_extent name passes = option_map name (first_failing passes axes)
-
-abbrev pub first_by_groups : Style → Option StyleField
-first_by_groups s =
-    option_or (option_or (option_or (option_or (option_or (option_or (option_or (option_or
-    (then_some (not (in_limits s.scrollbar_width)) field.ScrollbarWidth)
-    (then_some (not (if_any ratio_in_range s.aspect_ratio)) field.AspectRatio))
-    (first_side field.Inset (λ side. length_percentage_auto_in_range (side_of s.inset side))))
-    (first_side field.Padding (λ side. length_percentage_in_range (side_of s.padding side))))
-    (first_side field.Border (λ side. length_percentage_in_range (side_of s.border side))))
-    (first_extent field.Size (λ axis. dimension_in_range (extent axis s.size))))
-    (first_extent field.MinSize (λ axis. dimension_in_range (extent axis s.min_size))))
-    (first_extent field.MaxSize (λ axis. dimension_in_range (extent axis s.max_size))))
-    (first_side field.Margin (λ side. length_percentage_auto_in_range (side_of s.margin side)))
 
 -- what the answer says: none, exactly if every number of the style is in its range; one, if it is out of its range and all that are read before it are in theirs
 pub record NamesFirst (s : Style) (r : Option StyleField) : Type 0 where

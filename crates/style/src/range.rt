@@ -1,7 +1,7 @@
 // The ranges that the numbers of a style keep, and the first value of a style, in the order of reading, that is out of its own.
 ghost use Rattle.std.specs.Prelude.{◌≡◌, Bool};
 ghost use Rattle.style.specs.Ranges.{fraction_in_range, ratio_in_range, if_any, length_percentage_in_range, length_percentage_auto_in_range, dimension_in_range};
-ghost use Rattle.style.specs.Ranges.{side_of, sides, axes, first_out_of_range, first_by_groups, NamesFirst};
+ghost use Rattle.style.specs.Ranges.{side_of, sides, axes, first_out_of_range, NamesFirst};
 ghost use Rattle.geometry.specs.Shapes.{extent};
 ghost use Rattle.style.specs.FirstFailing.{first_failing};
 
@@ -128,14 +128,19 @@ fn first_extent_out_of_range<L: InRange>(size: &Size<L>) -> Option<AbsoluteAxis>
         .find(|axis| !extent_of(size, *axis).in_range())
 }
 
-fn first_by_groups(style: &Style) -> Option<StyleField>
-    ensures { result ≡ first_by_groups style.now }
+// The first value of the style, in the order in which placing an item reads them, whose number is out of range.
+pub fn first_out_of_range(style: &Style) -> Option<StyleField>
+    ensures value { result ≡ first_out_of_range style.now }
+    ensures law { NamesFirst style.now result }
 {
-    let scrollbar_width_in_range = number::in_limits(style.scrollbar_width);
-    let aspect_ratio_in_range = aspect_ratio_in_range(style.aspect_ratio);
-    (!scrollbar_width_in_range)
-        .then_some(StyleField::ScrollbarWidth)
-        .or((!aspect_ratio_in_range).then_some(StyleField::AspectRatio))
+    let scrollbar_width = (!number::in_limits(style.scrollbar_width)).then_some(
+        StyleField::ScrollbarWidth,
+    );
+    let aspect_ratio = (!aspect_ratio_in_range(style.aspect_ratio)).then_some(
+        StyleField::AspectRatio,
+    );
+    scrollbar_width
+        .or(aspect_ratio)
         .or_else(|| first_side_out_of_range(&style.inset).map(StyleField::Inset))
         .or_else(|| first_side_out_of_range(&style.padding).map(StyleField::Padding))
         .or_else(|| first_side_out_of_range(&style.border).map(StyleField::Border))
@@ -143,12 +148,4 @@ fn first_by_groups(style: &Style) -> Option<StyleField>
         .or_else(|| first_extent_out_of_range(&style.min_size).map(StyleField::MinSize))
         .or_else(|| first_extent_out_of_range(&style.max_size).map(StyleField::MaxSize))
         .or_else(|| first_side_out_of_range(&style.margin).map(StyleField::Margin))
-}
-
-// The first value of the style, in the order in which placing an item reads them, whose number is out of range.
-pub fn first_out_of_range(style: &Style) -> Option<StyleField>
-    ensures value { result ≡ first_out_of_range style.now }
-    ensures law { NamesFirst style.now result }
-{
-    first_by_groups(style)
 }

@@ -13,6 +13,6 @@ returns g c =
     let out : Side → Bool = λ side. not (g.L.InRange.allowed (side_of c.args.rect.now side)) in
     sym (option_map_id c.find.result)
     ∙ find_from_yields_List out _ _ c.find.result c.find.ensures.ran
-        (YieldsList-from_shown array_steps (λ y. y) array_into_iter_items (λ s t k. k.0) (λ s x t k. k) c.into_iter.result)
-        (λ x b q k. search (rules, tests))
+    (YieldsList-from_shown array_steps (λ y. y) array_into_iter_items (λ s t k. k.0) (λ s x t k. k) c.into_iter.result)
+    (λ x b q k. search (rules, tests))
     ∙ ap (find out) c.into_iter.ensures.into_iter_gives.0
