@@ -88,14 +88,14 @@ pub enum BoxSizing {
 }
 
 // Whether a measurement goes by the content alone, or by the sizes of the style too.
-#[derive(Clone, Copy)]
+#[derive(Clone, Copy, Debug, PartialEq, Eq)]
 pub enum SizingMode {
     ContentSize,
     InherentSize,
 }
 
 // The axes that a measurement is asked for.
-#[derive(Clone, Copy)]
+#[derive(Clone, Copy, Debug, PartialEq, Eq)]
 pub enum RequestedAxis {
     Horizontal,
     Vertical,
