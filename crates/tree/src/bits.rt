@@ -16,7 +16,7 @@ pub fn same_f32(a: f32, b: f32) -> bool
 }
 
 // A thing made of numbers. `alike` says that two are equal in every bit, `every` that each number in one passes a test.
-// Not `PartialEq`: by the `==` of numbers two zeros of different sign are equal, and no NaN is.
+// By hand: by the derived `==` two zeros of different sign are equal and no NaN is, and a type round `f32` with another `==` would be unwrapped at each use of a size.
 pub trait SameBits: Copy {
     ghost alike: { Self → Self → Bool };
 

@@ -1,6 +1,6 @@
 // Why a host has no answer.
-ghost use Rattle.std.specs.Prelude.{◌≡◌};
-ghost use Rattle.tree.specs.Faults.{reason_number};
+ghost use Rattle.std.specs.Prelude.{◌≡◌, Some};
+ghost use Rattle.tree.specs.Faults.{reason_number, reason_text, fault_text};
 
 use crate::question::Question;
 use std::fmt;
@@ -46,12 +46,16 @@ impl From<HostReason> for u32 {
 }
 
 impl fmt::Display for HostReason {
+    ghost output = { λ reason. Some (reason_text reason) };
+
     fn fmt<W: fmt::Write>(&self, f: &mut fmt::Formatter<W>) -> fmt::Result {
         write!(f, "reason {}", u32::from(*self))
     }
 }
 
 impl fmt::Display for HostFault {
+    ghost output = { λ fault. Some (fault_text fault) };
+
     fn fmt<W: fmt::Write>(&self, f: &mut fmt::Formatter<W>) -> fmt::Result {
         write!(f, "{} at node {}", self.reason, self.node)
     }

@@ -7,12 +7,14 @@ returns-then-every_number-2 g c = λ test h.
     let known = c.every_number.ensures test h in
     let available = c.every_number-then-every_number-2.ensures test h in
     elim c.if-every_number.branch [
-      then-every_number w ↦ let parent = w.every_number-then-every_number.ensures test h in search rules
-    | else-every_number w ↦ search rules ]
+      | then-every_number w ↦ let parent = w.every_number-then-every_number.ensures test h in search rules
+      | else-every_number w ↦ search rules
+    ]
 
 pub returns-else-every_number-2 : goal.returns-else-every_number-2
 returns-else-every_number-2 g c = λ test h.
     let known = c.every_number.ensures test h in
     elim c.if-every_number.branch [
-      then-every_number w ↦ let parent = w.every_number-then-every_number.ensures test h in search rules
-    | else-every_number w ↦ search rules ]
+      | then-every_number w ↦ let parent = w.every_number-then-every_number.ensures test h in search rules
+      | else-every_number w ↦ search rules
+    ]
