@@ -1,7 +1,7 @@
 // A table of nodes: each has a record, of which the first counts, and a place for the layout last stored for it.
 ghost use Rattle.std.specs.Prelude.{◌≡◌, ℕ, [], ◌∷◌, ◌++◌, is_some, if◌then◌else◌, Some, None, Ok, Err, ◌==◌};
+ghost use Rattle.std.specs.Option.{ok_or};
 ghost use Rattle.tree.specs.Faults.{unknown_node, no_answer};
-ghost use Rattle.tree.specs.Meaning.{or_fault};
 ghost use Rattle.tables.specs.Added.{Added};
 ghost use Rattle.tables.specs.Nodes.{slots_of, new_slot, slot_at, held_at, layout_at, layouts_with};
 
@@ -65,7 +65,7 @@ impl<R> NodeTable<R> {
 
 impl<R: OfNode + Copy> NodeTable<R> {
     fn slot(&self, node: u64, question: Option<Question>) -> Result<Slot<R>, HostFault>
-        ensures { result ≡ or_fault (slot_at R.OfNode.names (slots_of self.now) node) (unknown_node node question) }
+        ensures { result ≡ ok_or (slot_at R.OfNode.names (slots_of self.now) node) (unknown_node node question) }
     {
         match find(&self.slots, &node) {
             Some(slot) => Ok(slot),
@@ -75,7 +75,7 @@ impl<R: OfNode + Copy> NodeTable<R> {
 
     // The first record of a node.
     pub fn record(&self, node: u64, question: Option<Question>) -> Result<R, HostFault>
-        ensures { result ≡ or_fault (held_at R.OfNode.names (slots_of self.now) node) (unknown_node node question) }
+        ensures { result ≡ ok_or (held_at R.OfNode.names (slots_of self.now) node) (unknown_node node question) }
     {
         let slot = self.slot(node, question)?;
         Ok(slot.held)
@@ -98,7 +98,7 @@ impl<R: OfNode + Copy> NodeTable<R> {
 
     // The layout last stored for a node.
     pub fn stored(&self, node: u64) -> Result<Layout, HostFault>
-        ensures { result ≡ (if is_some (held_at R.OfNode.names (slots_of self.now) node) then or_fault (layout_at R.OfNode.names (slots_of self.now) node) (no_answer node None) else Err (unknown_node node None)) }
+        ensures { result ≡ (if is_some (held_at R.OfNode.names (slots_of self.now) node) then ok_or (layout_at R.OfNode.names (slots_of self.now) node) (no_answer node None) else Err (unknown_node node None)) }
     {
         let slot = self.slot(node, None)?;
         match slot.layout {
