@@ -96,9 +96,7 @@ fn say(rt: &HostRuntime, answer: Result<Size<f32>, HostFault>) -> anyhow::Result
             println!(rt; "{width} by {height}")?;
         }
         Err(fault) => {
-            let reason = fault.reason.number();
-            let node = fault.node;
-            println!(rt; "reason {reason} at node {node}")?;
+            println!(rt; "{fault}")?;
         }
     }
     Ok(())

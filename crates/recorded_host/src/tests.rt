@@ -4,6 +4,7 @@ use geometry::Size;
 use std::test::Fail;
 use style::length::AvailableSpace;
 use style::modes::{RequestedAxis, SizingMode};
+use tree::fault::HostReason;
 use tree::question::Question;
 use tree::traits::LayoutPartialTree;
 
@@ -55,7 +56,7 @@ fn first_answer_of_a_known_node(rt: HostRuntime) -> Result<(), Fail> {
     match host.measure(question(2)) {
         Ok(_) => Err(Fail::new("an answer for an unknown node")),
         Err(fault) => {
-            assert!(rt; fault.reason.number() == 1);
+            assert!(rt; fault.reason == HostReason::UnknownNode);
             Ok(())
         },
     }

@@ -1,2 +1,1 @@
-pub mod First
 mod Stored

@@ -1,8 +1,8 @@
 -- What a table of nodes says about a node: its first record, and the layout last stored for it.
 use Rattle.std.specs.Prelude.{ℕ, cond, List, is_some, Some, None, vec_items, Option, ◌==◌, nat_eq}
+use Rattle.std.specs.List.{find}
 use Rattle.std.specs.Option.{option_map, option_flatten}
 use Rattle.tree.specs.declared.layout.Layout.{Layout}
-use Rattle.tables.specs.First.{first_that}
 use Rattle.tables.specs.declared.nodes.Slot.{Slot}
 use Rattle.tables.specs.declared.nodes.NodeTable.{NodeTable}
 
@@ -16,7 +16,7 @@ new_slot r = record { held = r; layout = None }
 module _ {R : Type 0} (names : R → ℕ) (slots : List (Slot R)) where
   -- a node's first record counts
   abbrev pub slot_at : ℕ → Option (Slot R)
-  slot_at n = first_that (λ s. nat_eq (names s.held) n) slots
+  slot_at n = find (λ s. nat_eq (names s.held) n) slots
 
   abbrev pub held_at : ℕ → Option R
   held_at n = option_map (λ s. s.held) (slot_at n)

@@ -1,6 +1,6 @@
-// Records that are for a key, and the one search for the first of them.
+// Records that are for a key, and the search for the first of them.
 ghost use Rattle.std.specs.Prelude.{◌≡◌, Bool};
-ghost use Rattle.tables.specs.First.{first_that, first_place};
+ghost use Rattle.std.specs.List.{find, position};
 
 // A record that a key may be looked up by.
 pub trait Keyed<K> {
@@ -12,22 +12,14 @@ pub trait Keyed<K> {
 
 // Where the first record for a key stands.
 pub fn first_place<K, R: Keyed<K>>(records: &[R], key: &K) -> Option<usize>
-    ensures { result ≡ first_place (λ x. R.Keyed.fits x key.now) records.now }
+    ensures { result ≡ position (λ r. R.Keyed.fits r key.now) records.now }
 {
-    for (place, record) in records.iter().enumerate() {
-        if record.is_for(key) {
-            return Some(place);
-        }
-    }
-    None
+    records.iter().position(|record| record.is_for(key))
 }
 
 // The first record for a key.
 pub fn find<K, R: Keyed<K> + Copy>(records: &[R], key: &K) -> Option<R>
-    ensures { result ≡ first_that (λ x. R.Keyed.fits x key.now) records.now }
+    ensures { result ≡ find (λ r. R.Keyed.fits r key.now) records.now }
 {
-    match first_place(records, key) {
-        Some(place) => Some(records[place]),
-        None => None,
-    }
+    records.iter().find(|record| record.is_for(key)).copied()
 }

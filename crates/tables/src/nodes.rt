@@ -1,14 +1,13 @@
 // A table of nodes: each has a record, of which the first counts, and a place for the layout last stored for it.
 ghost use Rattle.std.specs.Prelude.{◌≡◌, ℕ, [], ◌∷◌, ◌++◌, is_some, if◌then◌else◌, Some, None, Ok, Err, ◌==◌};
+ghost use Rattle.std.specs.Option.{ok_or};
 ghost use Rattle.tree.specs.Faults.{unknown_node, no_answer};
-ghost use Rattle.tree.specs.Meaning.{or_fault};
 ghost use Rattle.tables.specs.Added.{Added};
 ghost use Rattle.tables.specs.Nodes.{slots_of, new_slot, slot_at, held_at, layout_at, layouts_with};
 
-use crate::faults;
 use crate::keyed::{Keyed, find, first_place};
 use std::alloc::{AllocFailed, Global};
-use tree::fault::HostFault;
+use tree::fault::{HostFault, HostReason};
 use tree::layout::Layout;
 use tree::question::Question;
 
@@ -53,32 +52,26 @@ impl<R> NodeTable<R> {
     pub fn add(&mut self, held: R) -> Result<(), AllocFailed<R>>
         ensures { Added result held (slots_of self.old) (slots_of self.old ++ new_slot held ∷ []) (slots_of self.new) }
     {
-        let slot = Slot { held, layout: None };
-        match self.slots.push(slot) {
-            Ok(()) => Ok(()),
-            Err(refused) => Err(AllocFailed {
+        self.slots
+            .push(Slot { held, layout: None })
+            .map_err(|refused| AllocFailed {
                 value: refused.value.held,
-            }),
-        }
+            })
     }
 }
 
 impl<R: OfNode + Copy> NodeTable<R> {
     fn slot(&self, node: u64, question: Option<Question>) -> Result<Slot<R>, HostFault>
-        ensures { result ≡ or_fault (slot_at R.OfNode.names (slots_of self.now) node) (unknown_node node question) }
+        ensures { result ≡ ok_or (slot_at R.OfNode.names (slots_of self.now) node) (unknown_node node question) }
     {
-        match find(&self.slots, &node) {
-            Some(slot) => Ok(slot),
-            None => Err(faults::unknown_node(node, question)),
-        }
+        find(&self.slots, &node).ok_or(HostReason::UnknownNode.about(node, question))
     }
 
     // The first record of a node.
     pub fn record(&self, node: u64, question: Option<Question>) -> Result<R, HostFault>
-        ensures { result ≡ or_fault (held_at R.OfNode.names (slots_of self.now) node) (unknown_node node question) }
+        ensures { result ≡ ok_or (held_at R.OfNode.names (slots_of self.now) node) (unknown_node node question) }
     {
-        let slot = self.slot(node, question)?;
-        Ok(slot.held)
+        self.slot(node, question).map(|slot| slot.held)
     }
 
     // The layout goes to the node's first record, in place of the one before.
@@ -87,23 +80,18 @@ impl<R: OfNode + Copy> NodeTable<R> {
         ensures records { held_at R.OfNode.names (slots_of self.new) ≡ held_at R.OfNode.names (slots_of self.old) }
         ensures layouts { layout_at R.OfNode.names (slots_of self.new) ≡ layouts_with R.OfNode.names (slots_of self.old) node layout.now }
     {
-        match first_place(&self.slots, &node) {
-            Some(place) => {
-                self.slots[place].layout = Some(*layout);
-                Ok(())
-            }
-            None => Err(faults::unknown_node(node, None)),
-        }
+        let place = first_place(&self.slots, &node)
+            .ok_or(HostReason::UnknownNode.about(node, None))?;
+        self.slots[place].layout = Some(*layout);
+        Ok(())
     }
 
     // The layout last stored for a node.
     pub fn stored(&self, node: u64) -> Result<Layout, HostFault>
-        ensures { result ≡ (if is_some (held_at R.OfNode.names (slots_of self.now) node) then or_fault (layout_at R.OfNode.names (slots_of self.now) node) (no_answer node None) else Err (unknown_node node None)) }
+        ensures { result ≡ (if is_some (held_at R.OfNode.names (slots_of self.now) node) then ok_or (layout_at R.OfNode.names (slots_of self.now) node) (no_answer node None) else Err (unknown_node node None)) }
     {
-        let slot = self.slot(node, None)?;
-        match slot.layout {
-            Some(layout) => Ok(layout),
-            None => Err(faults::no_answer(node, None)),
-        }
+        self.slot(node, None)?
+            .layout
+            .ok_or(HostReason::NoAnswer.about(node, None))
     }
 }

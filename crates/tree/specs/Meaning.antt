@@ -1,5 +1,6 @@
 -- What a host means, what it answers by that, and what a tally on top of it has counted.
-use Rattle.std.specs.Prelude.{ℕ, zero, suc, ◌+◌, ◌-◌, ◌^◌, min, Bool, cond, Some, None, Ok, Err, Option, Result, ◌==◌, Float}
+use Rattle.std.specs.Prelude.{ℕ, zero, suc, ◌+◌, ◌-◌, ◌^◌, min, Bool, cond, Some, None, Err, Option, Result, ◌==◌, Float}
+use Rattle.std.specs.Option.{ok_or}
 use Rattle.geometry.specs.declared.Size.{Size}
 use Rattle.style.specs.declared.style.Style.{Style}
 use Rattle.tree.specs.declared.question.Question.{Question}
@@ -24,13 +25,9 @@ pub record Meaning : Type 0 where
   pub means : Means
   pub stored : ℕ → Option Layout
 
-abbrev pub or_fault : {A : Type 0} → Option A → HostFault → Result A HostFault
-or_fault (Some a) f = Ok a
-or_fault None f = Err f
-
 -- what is answered about a node: it is unknown, or there is no answer, or this
 abbrev pub answers : {A : Type 0} → Means → ℕ → Option Question → Option A → Result A HostFault
-answers m n q a = cond (m.has n) (or_fault a (no_answer n q)) (Err (unknown_node n q))
+answers m n q a = cond (m.has n) (ok_or a (no_answer n q)) (Err (unknown_node n q))
 
 abbrev pub measures : Means → Question → Result (Size Float) HostFault
 measures m q = answers m q.node (Some q) (m.sizes q)
@@ -43,7 +40,7 @@ fetches m q i = answers m q.node (Some q) (m.candidates q i)
 
 -- a node without a style counts as unknown where its style is wanted
 abbrev pub styles_at : Means → ℕ → Result Style HostFault
-styles_at m n = cond (m.has n) (or_fault (m.styles n) (unknown_node n None)) (Err (unknown_node n None))
+styles_at m n = cond (m.has n) (ok_or (m.styles n) (unknown_node n None)) (Err (unknown_node n None))
 
 -- storing is accepted just where the node is known
 abbrev pub stores : Means → ℕ → Result (Unit {0}) HostFault

@@ -1,7 +1,6 @@
-// Equal in every bit, free of NaN, finite: tests of a number, and of what is made of numbers.
+// Equal in every bit, and a test of every number: of a number, and of what is made of numbers.
 ghost use Rattle.std.specs.Prelude.{◌≡◌, Bool, true, Float};
-ghost use Rattle.std.specs.Float.Ieee.Scale.{finite};
-ghost use Rattle.tree.specs.Bits.{same_f32, same_option, same_space, same_size, is_number, every_option, every_space, every_size};
+ghost use Rattle.tree.specs.Bits.{same_f32, same_option, same_space, same_size, every_option, every_space, every_size};
 
 use geometry::Size;
 use std::num::f32_to_bits_with_nan;
@@ -17,6 +16,7 @@ pub fn same_f32(a: f32, b: f32) -> bool
 }
 
 // A thing made of numbers. `alike` says that two are equal in every bit, `every` that each number in one passes a test.
+// By hand: by the derived `==` two zeros of different sign are equal and no NaN is, and a type round `f32` with another `==` would be unwrapped at each use of a size.
 pub trait SameBits: Copy {
     ghost alike: { Self → Self → Bool };
 
@@ -27,11 +27,9 @@ pub trait SameBits: Copy {
         ensures same { result ≡ true → self ≡ other }
         ensures back { self ≡ other → result ≡ true };
 
-    fn free_of_nan(self) -> bool
-        ensures { result ≡ every is_number self };
-
-    fn all_finite(self) -> bool
-        ensures { result ≡ every finite self };
+    fn every_number<F: Fn(f32) -> bool>(self, passes: &F) -> bool
+        requires { F.IsAlwaysCallable passes.now }
+        ensures { (test : Float → Bool) → ((x : Float) (b : Bool) → F.post passes.now x b → b ≡ test x) → result ≡ every test self };
 }
 
 impl SameBits for f32 {
@@ -43,12 +41,8 @@ impl SameBits for f32 {
         same_f32(self, other)
     }
 
-    fn free_of_nan(self) -> bool {
-        !self.is_nan()
-    }
-
-    fn all_finite(self) -> bool {
-        self.is_finite()
+    fn every_number<F: Fn(f32) -> bool>(self, passes: &F) -> bool {
+        passes(self)
     }
 }
 
@@ -61,23 +55,12 @@ impl<T: SameBits> SameBits for Option<T> {
         match (self, other) {
             (Some(a), Some(b)) => a.same_bits(b),
             (None, None) => true,
-            (Some(_), None) => false,
-            (None, Some(_)) => false,
+            (Some(_), None) | (None, Some(_)) => false,
         }
     }
 
-    fn free_of_nan(self) -> bool {
-        match self {
-            Some(x) => x.free_of_nan(),
-            None => true,
-        }
-    }
-
-    fn all_finite(self) -> bool {
-        match self {
-            Some(x) => x.all_finite(),
-            None => true,
-        }
+    fn every_number<F: Fn(f32) -> bool>(self, passes: &F) -> bool {
+        self.is_none_or(|x| x.every_number(passes))
     }
 }
 
@@ -89,22 +72,15 @@ impl SameBits for AvailableSpace {
     fn same_bits(self, other: AvailableSpace) -> bool {
         match (self, other) {
             (AvailableSpace::Definite(a), AvailableSpace::Definite(b)) => same_f32(a, b),
-            (AvailableSpace::MinContent, AvailableSpace::MinContent) => true,
-            (AvailableSpace::MaxContent, AvailableSpace::MaxContent) => true,
+            (AvailableSpace::MinContent, AvailableSpace::MinContent)
+            | (AvailableSpace::MaxContent, AvailableSpace::MaxContent) => true,
             _ => false,
         }
     }
 
-    fn free_of_nan(self) -> bool {
+    fn every_number<F: Fn(f32) -> bool>(self, passes: &F) -> bool {
         match self {
-            AvailableSpace::Definite(x) => x.free_of_nan(),
-            AvailableSpace::MinContent | AvailableSpace::MaxContent => true,
-        }
-    }
-
-    fn all_finite(self) -> bool {
-        match self {
-            AvailableSpace::Definite(x) => x.all_finite(),
+            AvailableSpace::Definite(x) => passes(x),
             AvailableSpace::MinContent | AvailableSpace::MaxContent => true,
         }
     }
@@ -119,11 +95,7 @@ impl<T: SameBits> SameBits for Size<T> {
         self.width.same_bits(other.width) && self.height.same_bits(other.height)
     }
 
-    fn free_of_nan(self) -> bool {
-        self.width.free_of_nan() && self.height.free_of_nan()
-    }
-
-    fn all_finite(self) -> bool {
-        self.width.all_finite() && self.height.all_finite()
+    fn every_number<F: Fn(f32) -> bool>(self, passes: &F) -> bool {
+        self.width.every_number(passes) && self.height.every_number(passes)
     }
 }

@@ -2,7 +2,7 @@
 ghost use Rattle.std.specs.Prelude.{◌≡◌, true};
 ghost use Rattle.std.specs.Float.Ieee.Scale.{finite};
 ghost use Rattle.tree.specs.Bits.{is_number};
-ghost use Rattle.tree.specs.Questions.{same_mode, same_axis, same_question, every_number, answers_for};
+ghost use Rattle.tree.specs.Questions.{same_question, every_number, answers_for};
 
 use crate::bits::SameBits;
 use geometry::Size;
@@ -23,34 +23,25 @@ pub struct Question {
     pub axis: RequestedAxis,
 }
 
-fn same_mode(mode: SizingMode, other: SizingMode) -> bool
-    ensures test { result ≡ same_mode mode other }
-    ensures same { result ≡ true → mode ≡ other }
-    ensures back { mode ≡ other → result ≡ true }
-{
-    mode as u8 == other as u8
-}
+impl SameBits for Question {
+    ghost alike = { same_question };
 
-fn same_axis(axis: RequestedAxis, other: RequestedAxis) -> bool
-    ensures test { result ≡ same_axis axis other }
-    ensures same { result ≡ true → axis ≡ other }
-    ensures back { axis ≡ other → result ≡ true }
-{
-    axis as u8 == other as u8
-}
+    ghost every = { every_number };
 
-// Equal in every bit.
-pub fn same_question(a: Question, b: Question) -> bool
-    ensures test { result ≡ same_question a b }
-    ensures same { result ≡ true → a ≡ b }
-    ensures back { a ≡ b → result ≡ true }
-{
-    a.node == b.node
-        && a.known_dimensions.same_bits(b.known_dimensions)
-        && a.parent_size.same_bits(b.parent_size)
-        && a.available_space.same_bits(b.available_space)
-        && same_mode(a.sizing_mode, b.sizing_mode)
-        && same_axis(a.axis, b.axis)
+    fn same_bits(self, other: Question) -> bool {
+        self.node == other.node
+            && self.known_dimensions.same_bits(other.known_dimensions)
+            && self.parent_size.same_bits(other.parent_size)
+            && self.available_space.same_bits(other.available_space)
+            && self.sizing_mode == other.sizing_mode
+            && self.axis == other.axis
+    }
+
+    fn every_number<F: Fn(f32) -> bool>(self, passes: &F) -> bool {
+        self.known_dimensions.every_number(passes)
+            && self.parent_size.every_number(passes)
+            && self.available_space.every_number(passes)
+    }
 }
 
 impl Question {
@@ -58,18 +49,15 @@ impl Question {
     pub fn is_free_of_nan(self) -> bool
         ensures { result ≡ every_number is_number self }
     {
-        self.known_dimensions.free_of_nan()
-            && self.parent_size.free_of_nan()
-            && self.available_space.free_of_nan()
+        self.every_number(&|x| !x.is_nan())
     }
 
     // None of its numbers is a NaN or an infinity.
+    #[tactic(auto, using(crate::proofs::Finite::finite_is))]
     pub fn is_finite(self) -> bool
         ensures { result ≡ every_number finite self }
     {
-        self.known_dimensions.all_finite()
-            && self.parent_size.all_finite()
-            && self.available_space.all_finite()
+        self.every_number(&|x| x.is_finite())
     }
 }
 
@@ -80,5 +68,5 @@ pub fn answers_for(recorded: Question, asked: Question) -> bool
     ensures numbers { result ≡ true → every_number is_number asked ≡ true }
     ensures back { recorded ≡ asked → every_number is_number asked ≡ true → result ≡ true }
 {
-    same_question(recorded, asked) && asked.is_free_of_nan()
+    recorded.same_bits(asked) && asked.is_free_of_nan()
 }

@@ -13,7 +13,7 @@ pub trait LayoutPartialTree {
     // What the host means.
     ghost meaning: { Self → Meaning };
 
-    // The host's own condition, under which it answers by its meaning.
+    // The host's own condition, under which it answers by its meaning. Each method asks for it, since it is no invariant of the type: each host says what it is.
     ghost ordered: { Self → Type 0 };
 
     // What a tally on top has counted; nothing where there is none.

@@ -1,21 +1,25 @@
-use Rattle.std.proofs.Common.{None, arith}
+use Rattle.std.proofs.Common.{◌≡◌, None, Err, Result, sym, ap, ◌∙◌}
+use Rattle.std.proofs.lemmas.Result.{err_from_is_err_and}
+use Rattle.std.specs.Option.{ok_or}
+use Rattle.std.specs.Result.{result_ok}
 use Rattle.tree.specs.Faults.{unknown_node}
-use Rattle.tables.proofs.Stored.{inside, found, missed}
+use Rattle.tables.proofs.Stored.{first_at, stored, missed}
 use Rattle.tables.proofs.nodes.NodeTable.store.Goals as goal
 
-pub index_mut-requires : goal.index_mut-requires
-index_mut-requires g c =
-    let slots = c.args.self.now.slots in
-    omega (arith, slots.ok.0, inside g.R.OfNode.names slots.items c.deref.result.now c.args.node c.deref.ensures.value c.in-Some.place c.in-Some.ensures)
+same_err : {A E : Type 0} (e f : E) → ◌≡◌ {A = Result A E} (Err e) (Err f) → e ≡ f
+same_err e f same = cc
 
-pub returns-in-Some : goal.returns-in-Some
-returns-in-Some g c =
-    let slots = c.args.self.now.slots.items in
-    let s = found g.R.OfNode.names slots c.deref.result.now c.args.node c.deref.ensures.value c.in-Some.place c.args.layout.now c.index_mut.result.now (unknown_node c.args.node None) c.in-Some.ensures c.index_mut.ensures.value in
+pub returns : goal.returns
+returns g c =
+    let at = rw c.deref.ensures.value at (sym c.first_place.ensures ∙ c.ok_or.ensures.ok_part ∙ ap result_ok c.in_ok-place.was) in
+    let s = stored g.R.OfNode.names c.args.self.now.slots.items c.args.node c.in_ok-place.place c.index_mut.result.now c.args.layout.now (first_at _ _ _ at) c.index_mut.ensures.value (unknown_node c.args.node None) in
     record { answer = s.answer; records = s.records; layouts = s.layouts }
 
-pub returns-in-None : goal.returns-in-None
-returns-in-None g c =
-    let slots = c.args.self.now.slots.items in
-    let s = missed g.R.OfNode.names slots c.deref.result.now c.args.node c.deref.ensures.value c.args.layout.now c.unknown_node.result (unknown_node c.args.node None) c.in-None.ensures c.unknown_node.ensures in
-    record { answer = s.answer; records = s.records; layouts = s.layouts }
+pub returns-in_err-place : goal.returns-in_err-place
+returns-in_err-place g c =
+    let nowhere = c.ok_or.ensures.ok_part ∙ ap result_ok c.in_err-place.was in
+    let at = rw c.deref.ensures.value at (sym c.first_place.ensures ∙ nowhere) in
+    let s = missed g.R.OfNode.names c.args.self.now.slots.items c.args.node c.args.layout.now (unknown_node c.args.node None) at in
+    let p = err_from_is_err_and c.from_residual.result c.from_residual.ensures.1 in
+    let fault = same_err _ _ ( sym c.in_err-place.was ∙ c.ok_or.ensures.value ∙ ap (λ o. ok_or o c.about.result) nowhere ∙ ap (λ f. Err f) c.about.ensures) in
+    record { answer = rw (p.1, p.2) (ap (λ f. Err f) fault ∙ s.answer); records = s.records; layouts = s.layouts }
