@@ -1,8 +1,8 @@
 -- The range of each number of a style, and the first value of a style that is out of its own.
 use Rattle.std.specs.Prelude.{◌≡◌, Bool, true, ◌&&◌, T, List, [], ◌∷◌, ◌++◌, map, Some, None, Option, from_bits, Float}
 use Rattle.std.specs.Float.{binary32}
-use Rattle.std.specs.Float.Ieee.{le, neg}
-use Rattle.number.specs.Limits.{in_limits}
+use Rattle.std.specs.Float.Ieee.{le}
+use Rattle.number.specs.Limits.{within, in_limits}
 use Rattle.geometry.specs.Shapes.{extent}
 use Rattle.geometry.specs.declared.AbsoluteAxis.{AbsoluteAxis}
 use Rattle.geometry.specs.declared.AbsoluteAxis.TheVariants.{Horizontal, Vertical}
@@ -29,7 +29,7 @@ least_ratio = from_bits binary32 0x3a80_0000
 
 -- a percentage, as a fraction: at most 1,024 in magnitude
 abbrev pub fraction_in_range : Float → Bool
-fraction_in_range x = le x most_fraction && le (neg most_fraction) x
+fraction_in_range = within most_fraction
 
 -- from 1 / 1,024 to 1,024
 abbrev pub ratio_in_range : Float → Bool

@@ -36,7 +36,7 @@ pub enum StyleField {
 pub fn percent_in_range(fraction: f32) -> bool
     ensures { result ≡ fraction_in_range fraction }
 {
-    fraction <= 1024.0 && -1024.0 <= fraction
+    number::is_within(fraction, 1024.0)
 }
 
 // From 1/1,024 to 1,024. No ratio is no number.
