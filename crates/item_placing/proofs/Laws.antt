@@ -248,10 +248,13 @@ module _ (p : AreaItem) (o : out_of_flow p.position ≡ true) (a b : Float) (i :
         ∙ ap (λ (w : Bool). with_shim p.baseline_shim (cond w (at_line_end p.direction (rest_of p)) (halves (rest_of p)))) (true_of (lt (rest_of p) zero) n);
   }
 
-pub laws : (p : AreaItem) → Placed p (placed p)
-laws p = record {
+of_placed : (p : AreaItem) → Placed p (placed p)
+of_placed p = record {
   anywhere = anywhere p;
   in_flow = in_flow p;
   beside_an_auto_inset = beside p;
   between_two_insets = λ o a b i h. between p o a b i h;
 }
+
+pub laws : (p : AreaItem) (r : Float × Line Float) → r ≡ placed p → Placed p r
+laws p r e = subst (Placed p) (sym e) (of_placed p)
