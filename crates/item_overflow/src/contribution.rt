@@ -86,11 +86,10 @@ impl ItemBox {
                 .axis_components(AbsoluteAxis::Horizontal),
             inline_start,
         );
-        match (self.direction, container.direction) {
-            (Direction::Ltr, Direction::Ltr) => content,
-            (Direction::Ltr, Direction::Rtl) => mirrored(content, self.size.width),
-            (Direction::Rtl, Direction::Ltr) => mirrored(content, self.size.width),
-            (Direction::Rtl, Direction::Rtl) => content,
+        if self.direction == container.direction {
+            content
+        } else {
+            mirrored(content, self.size.width)
         }
     }
 
