@@ -1,5 +1,5 @@
 // Rectangles, the lines that their sides make, and sums of sides.
-ghost use Rattle.std.specs.Prelude.{◌≡◌};
+ghost use Rattle.std.specs.Prelude.{◌≡◌, ◌&&◌, is_some};
 ghost use Rattle.geometry.specs.Shapes.{sides};
 ghost use Rattle.geometry.specs.Holds.{union_of, SmallestAround};
 
@@ -13,6 +13,14 @@ impl<T: Add<T> + Copy> Line<T> {
         ensures { T.Add.add_gives self.start self.end result }
     {
         self.start + self.end
+    }
+}
+
+impl<T> Line<Option<T>> {
+    pub fn both_set(&self) -> bool
+        ensures { result ≡ (is_some self.now.start && is_some self.now.end) }
+    {
+        self.start.is_some() && self.end.is_some()
     }
 }
 

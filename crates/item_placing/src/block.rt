@@ -1,10 +1,9 @@
 // The alignment container of an item, along one axis.
 ghost use Rattle.std.specs.Prelude.{◌≡◌};
-ghost use Rattle.item_placing.specs.Blocks.{area_size, counted_insets, both_set, block_within, direction_of, insets_of, block_of, length_of};
+ghost use Rattle.item_placing.specs.Blocks.{area_size, block_within, direction_of, insets_of, block_of, length_of};
 
 use crate::area_item::AreaItem;
-use crate::edge::axis_direction;
-use geometry::Line;
+use geometry::{AbsoluteAxis, Line};
 use number::f32_max;
 use style::alignment::Direction;
 
@@ -12,13 +11,7 @@ use style::alignment::Direction;
 fn area_size(area: Line<f32>) -> f32
     ensures { result ≡ area_size area }
 {
-    f32_max(area.end - area.start, 0.0)
-}
-
-pub(crate) fn both_set(inset: Line<Option<f32>>) -> bool
-    ensures { result ≡ both_set inset }
-{
-    inset.start.is_some() && inset.end.is_some()
+    f32_max(length_of(area), 0.0)
 }
 
 pub(crate) fn length_of(block: Line<f32>) -> f32
@@ -32,14 +25,15 @@ fn block_within(size: f32, inset: Line<Option<f32>>, direction: Direction) -> Li
     ensures { result ≡ block_within size inset direction }
 {
     let start = inset.start.unwrap_or(0.0);
-    let end = match inset.end {
-        Some(inset) => size - inset,
-        None => size,
-    };
-    if both_set(inset) && end < start {
-        match direction {
-            Direction::Ltr => Line { start, end: start },
-            Direction::Rtl => Line { start: end, end },
+    let end = inset.end.map_or(size, |inset| size - inset);
+    if inset.both_set() && end < start {
+        let edge = match direction {
+            Direction::Ltr => start,
+            Direction::Rtl => end,
+        };
+        Line {
+            start: edge,
+            end: edge,
         }
     } else {
         Line { start, end }
@@ -47,10 +41,14 @@ fn block_within(size: f32, inset: Line<Option<f32>>, direction: Direction) -> Li
 }
 
 impl AreaItem {
+    // The way in which the axis runs: vertically always onward from the top.
     pub(crate) fn axis_direction(self) -> Direction
         ensures { result ≡ direction_of self }
     {
-        axis_direction(self.axis, self.direction)
+        match self.axis {
+            AbsoluteAxis::Horizontal => self.direction,
+            AbsoluteAxis::Vertical => Direction::Ltr,
+        }
     }
 
     // The insets that bound the block: in flow there are none.

@@ -10,18 +10,13 @@ use style::modes::Position;
 fn inset_offset(inset: Line<Option<f32>>, direction: Direction) -> f32
     ensures { result ≡ inset_offset direction inset.start inset.end }
 {
-    match direction {
-        Direction::Ltr => match (inset.start, inset.end) {
-            (Some(start), _) => start,
-            (None, Some(end)) => -end,
-            (None, None) => 0.0,
-        },
-        Direction::Rtl => match (inset.end, inset.start) {
-            (Some(end), _) => -end,
-            (None, Some(start)) => start,
-            (None, None) => 0.0,
-        },
-    }
+    let onward = inset.start;
+    let back = inset.end.map(|end| -end);
+    let offset = match direction {
+        Direction::Ltr => onward.or(back),
+        Direction::Rtl => back.or(onward),
+    };
+    offset.unwrap_or(0.0)
 }
 
 // How far its insets move an item along one axis; no other position than `relative` moves. Vertically the direction is `Ltr`.
