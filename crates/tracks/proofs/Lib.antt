@@ -1,4 +1,5 @@
 pub mod Counts
+pub mod Totals
 pub mod Walks
 pub mod Chains
 pub mod Shares
