@@ -1,5 +1,5 @@
 -- A walk keeps the law of aligned tracks, and only the walk does.
-use Rattle.std.proofs.Common.{◌≡◌, ℕ, zero, suc, ◌<◌, Bool, true, false, not, ◌&&◌, ◌||◌, List, [], ◌∷◌, ◌++◌, map, reverse, length, get_or, take, cond, sym, refl, ap, ◌∙◌, subst, suc-le-suc, zero-le, le_of_suc-le-suc, not-suc-le-zero, arith}
+use Rattle.std.proofs.Common.{◌≡◌, ℕ, zero, suc, ◌<◌, Bool, true, false, not, ◌&&◌, ◌||◌, List, [], ◌∷◌, ◌++◌, map, reverse, length, get_or, take, cond, sym, refl, ap, ◌∙◌, subst, suc-le-suc, zero-le, le_of_suc-le-suc, not-suc-le-zero}
 use lib.Ieee.{Float}
 use Rattle.std.proofs.lemmas.List.{reverse-append, map-append}
 use Rattle.tracks.specs.Tracks.{plus, live, begins, begin, positioned, onward, walked, start_place, start_walk}
@@ -7,10 +7,6 @@ use Rattle.tracks.specs.Aligned.{Chain, end, odd_at, any_live, mark_and_size}
 use Rattle.tracks.specs.declared.grid_track.GridTrack.{GridTrack}
 use Rattle.tracks.specs.declared.track_alignment.TrackAlignment.{TrackAlignment}
 use Rattle.tracks.specs.declared.walk.TrackWalk.{TrackWalk}
-
-or_false : (a : Bool) → (a || false) ≡ a
-or_false true = refl
-or_false false = refl
 
 -- the share that is left, once a live track was seen, and then perhaps another
 share_left : (a b : Bool) (first gap : Float) → cond b gap (cond a gap first) ≡ cond (a || b) gap first

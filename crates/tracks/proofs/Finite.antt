@@ -2,11 +2,13 @@
 use Rattle.std.proofs.Common.{◌≡◌, ℕ, zero, suc, ◌+◌, ◌*◌, ◌^◌, ◌<◌, ◌≤◌, Bool, true, false, cond, not, T, eqb, List, [], ◌∷◌, map, length, get_or, take, sym, refl, ap, ◌∙◌, subst, le_of_suc-le-suc, not-suc-le-zero, mul-le-mul_right, arith, lit<, lit≤}
 use mathlib.Core.List.{reverse_aux}
 use lib.Ieee.{Float, nan, inf, fin, binary32, le, is_nan, fits}
+use lib.Ieee.Bits.{is_true}
 use lib.Ieee.Fits.{add-fits}
 use lib.Ieee.Scale.{finite}
 use Rattle.std.specs.Float.Order.{le_refl}
+use Rattle.std.proofs.lemmas.Bool.{cond_both}
 use Rattle.std.proofs.num.FloatSigns.{zero_is}
-use Rattle.std.proofs.lemmas.List.{length-reverse, length-map, reverse-reverse}
+use Rattle.std.proofs.lemmas.List.{length-map}
 use Rattle.geometry.specs.declared.Line.{Line}
 use Rattle.number.specs.Limits.{in_limits}
 use Rattle.number.specs.Sizes.{Within, Bounded, Each}
@@ -22,7 +24,6 @@ use Rattle.tracks.specs.Laws.{InRange, WellPlaced}
 use Rattle.tracks.specs.declared.grid_track.GridTrack.{GridTrack}
 use Rattle.tracks.specs.declared.track_alignment.TrackAlignment.{TrackAlignment}
 use Rattle.tracks.specs.declared.walk.TrackWalk.{TrackWalk}
-use Rattle.number.proofs.Order.{cond_both}
 use Rattle.tracks.proofs.Chains.{chain}
 use Rattle.tracks.proofs.Counts.{count_bound}
 use Rattle.tracks.proofs.Walks.{length_in_order, twice_in_order}
@@ -55,7 +56,7 @@ walk_within odd w (t ∷ ts) p r h R a f g s =
     let b = begin_within (live odd t) w.place w.share p P a f in (
       weaken (p + 514) r (begin odd w t) (omega arith) b,
       walk_within (not odd) (onward odd w t) ts (p + 515) r (omega arith) R (plus_within (p + 514) 1 (p + 515) (begin odd w t) t.base_size (omega arith) (omega arith) b s.0)
-      (cond_both (Within 514 20) (live odd t) w.gap w.share g f) g s.1,
+          (cond_both (live odd t) w.gap w.share (Within 514 20) (λ _. g) (λ _. f)) g s.1,
     )
 
 sized_along : (odd : Bool) (w : TrackWalk) (ts : List GridTrack) → Sized ts → Sized (walked odd w ts)
@@ -99,16 +100,12 @@ begins_later a true p q x f w g z =
     add_grows binary32 x a.gap f (finite_within p x w) (finite_within q a.gap g) (subst (λ (o : Float). T (le o a.gap)) (zero_is binary32) z)
 begins_later a false p q x f w g z = le_refl x (number_within p x w)
 
-truth : (b : Bool) → T b → b ≡ true
-truth true t = refl
-truth false t = absurd t
-
 apart : (a : TrackAlignment) (start : Float) (odd : Bool) (ws : List GridTrack) → Chain a start odd ws → Offsets 524288 ws → Sized ws → Within 514 20 a.gap → T (le Distribution.zero a.gap) → Apart odd ws
 apart a start odd ws c o z g n k d h l =
     let here : suc k ≤ length ws = omega arith in
     let t = get_or ws k d in
     let u = get_or ws (suc k) d in
-    let e = c.next k d h ∙ ap (λ b. begins a b (live (odd_at odd (suc k)) u) (end t)) (truth (any_live odd (take (suc k) ws)) l) in
+    let e = c.next k d h ∙ ap (λ b. begins a b (live (odd_at odd (suc k)) u) (end t)) (is_true (any_live odd (take (suc k) ws)) l) in
     subst (λ (y : Float). T (le (end t) y)) (sym e)
     (begins_later a (live (odd_at odd (suc k)) u) 524289 514 (end t) (add-fits binary32 t.offset t.base_size)
     (plus_within 524288 1 524289 t.offset t.base_size (omega arith) (omega arith) (at (Within 524288 20) (λ v. v.offset) ws k d here o) (at (Within 1 20) (λ v. v.base_size) ws k d here z)) g n)

@@ -1,5 +1,5 @@
 -- The list that align_tracks leaves keeps the law of aligned tracks, and no other does.
-use Rattle.std.proofs.Common.{◌≡◌, ◌≤◌, Bool, true, false, List, map, reverse, length, sym, refl, ap, ◌∙◌, subst, arith}
+use Rattle.std.proofs.Common.{◌≡◌, ◌≤◌, Bool, true, false, List, map, reverse, length, sym, ap, ◌∙◌, subst, arith}
 use lib.Ieee.{Float}
 use Rattle.style.specs.declared.alignment.AlignContent.{AlignContent}
 use Rattle.tracks.specs.Tracks.{live_count, free_space_of, track_alignment, start_place, starts_odd, start_walk, in_order, walked, aligned}

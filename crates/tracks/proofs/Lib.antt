@@ -1,5 +1,4 @@
 pub mod Counts
-pub mod Totals
 pub mod Walks
 pub mod Chains
 pub mod Shares

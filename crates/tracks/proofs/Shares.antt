@@ -6,10 +6,9 @@ use lib.Ieee.Back.{round_whole}
 use lib.Ieee.Positive.{positive, positive_of_value}
 use Rattle.std.specs.Float as Floats
 use Rattle.std.specs.Float.{float_max}
-use Rattle.std.proofs.lemmas.Bool.{cases_lt}
+use Rattle.std.proofs.lemmas.Bool.{cases_lt, cond_both}
 use Rattle.std.proofs.num.FloatSigns.{zero_is}
 use Rattle.number.specs.Sizes.{Within, AtLeast}
-use Rattle.number.proofs.Order.{cond_both}
 use Rattle.number.proofs.Signs.{div_sign, most_zero}
 use Rattle.number.proofs.Sizes.{div_within, share_within, most_within, zero_within}
 use Rattle.style.specs.Alignment.{reversed}
@@ -38,7 +37,7 @@ abbrev NoGaps : AlignContentKeyword → Type 0
 NoGaps k = T (leaves_gaps k) → ⊥
 
 start_or : (b : Bool) (k : AlignContentKeyword) → NoGaps k → NoGaps (cond b Start k)
-start_or b k n = cond_both NoGaps b Start k (λ h. h) n
+start_or b k n = cond_both b Start k NoGaps (λ _. λ h. h) (λ _. n)
 
 fallen_back : (free : Float) (k : AlignContentKeyword) (s : AlignmentSafety) → NoGaps (overflow_position free (fallback k (record { keyword = k; safety = s })))
 fallen_back free Normal s = start_or _ FlexStart (λ h. h)

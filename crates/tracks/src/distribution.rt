@@ -71,7 +71,7 @@ impl Distribution {
             AlignContentKeyword::End | AlignContentKeyword::FlexEnd => self.free_space,
             AlignContentKeyword::Center => self.free_space / 2.0,
             AlignContentKeyword::SpaceAround => self.free_space / as_number(self.num_items) / 2.0,
-            AlignContentKeyword::SpaceEvenly => self.free_space / self.spaces_around(),
+            AlignContentKeyword::SpaceEvenly => self.free_space / self.num_spaces(),
             _ => 0.0,
         }
     }
@@ -85,13 +85,14 @@ impl Distribution {
             AlignContentKeyword::SpaceBetween => free_space
                 / as_number(self.num_items.saturating_sub(1)),
             AlignContentKeyword::SpaceAround => free_space / as_number(self.num_items),
-            AlignContentKeyword::SpaceEvenly => free_space / self.spaces_around(),
+            AlignContentKeyword::SpaceEvenly => free_space / self.num_spaces(),
             _ => 0.0,
         }
     }
 
-    // One more than the items. Where the sum saturates, both it and the exact sum round to 2^64.
-    fn spaces_around(self) -> f32
+    // The spaces before, between and after the items: one more than they. Where that sum saturates, it and the exact one round to 2^64 both.
+    #[tactic(auto, using(crate::proofs::Shares::count_saturated))]
+    fn num_spaces(self) -> f32
         ensures { result ≡ count (self.num_items + 1) }
     {
         as_number(self.num_items.saturating_add(1))

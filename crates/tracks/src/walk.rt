@@ -51,6 +51,7 @@ fn walk_tracks(tracks: &mut [GridTrack], start: TrackWalk, axis_is_reversed: boo
     ensures { tracks.new ≡ in_order axis_is_reversed (walked (starts_odd axis_is_reversed (length tracks.old)) start (in_order axis_is_reversed tracks.old)) }
 {
     let mut walk = start;
+    // By index: after `iter_mut().rev()` a proof knows no more of the tracks than how many they are.
     for step in 0..tracks.len() {
         let index = if axis_is_reversed {
             tracks.len() - 1 - step

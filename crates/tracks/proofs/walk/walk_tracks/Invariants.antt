@@ -1,5 +1,4 @@
 use Rattle.std.proofs.Common.{◌≡◌}
-use Rattle.tracks.specs.Tracks.{walked, starts_odd, in_order}
 use Rattle.tracks.proofs.Walks.{Left}
 use Rattle.tracks.proofs.walk.walk_tracks.Given as goal
 
