@@ -1,2 +1,1 @@
-pub mod Recalls
 pub mod Newest

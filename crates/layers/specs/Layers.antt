@@ -12,7 +12,7 @@ use Rattle.layers.specs.declared.cache.Cache.{Cache}
 use Rattle.layers.specs.declared.tally.Tally.{Tally}
 
 abbrev pub entries_of : {H : Type 0} → Cache H → List Remembered
-entries_of c = vec_items c.memory.entries
+entries_of c = c.memory
 
 -- each remembered answer is the one of the host below
 abbrev pub RemembersRightly : {H : Type 0} → (H → Meaning) → Cache H → Type 0

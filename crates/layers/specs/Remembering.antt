@@ -1,6 +1,7 @@
 -- What a cache remembers: measurements that were answered, the oldest first, 64 at most.
 use Rattle.std.specs.Prelude.{◌≡◌, cond, List, [], ◌∷◌, ◌++◌, length, drop, Some, None, Ok, Err, Option, Result, nat_lt, Float}
-use Rattle.std.specs.List.{AllByRecursion}
+use Rattle.std.specs.List.{AllByRecursion, find}
+use Rattle.std.specs.Option.{option_map}
 use Rattle.geometry.specs.declared.Size.{Size}
 use Rattle.tree.specs.declared.question.Question.{Question}
 use Rattle.tree.specs.declared.fault.HostFault.{HostFault}
@@ -11,8 +12,7 @@ use Rattle.layers.specs.declared.memory.Remembered.{Remembered}
 
 -- the answer to the first measurement that answers for a question
 abbrev pub recalled : List Remembered → Question → Option (Size Float)
-recalled [] q = None
-recalled (e ∷ es) q = cond (answers_for e.question q) (Some e.size) (recalled es q)
+recalled es q = option_map (λ e. e.size) (find (λ e. answers_for e.question q) es)
 
 abbrev pub measurement : Question → Size Float → Remembered
 measurement q s = record { question = q; size = s }

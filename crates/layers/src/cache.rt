@@ -25,6 +25,7 @@ impl<H: LayoutPartialTree> Cache<H> {
         ensures made { MatchResult result (λ c. (c.below ≡ below) × (entries_of c ≡ [])) (λ e. e.value ≡ below) }
         ensures order { H.ordered below → MatchResult result (λ c. H.ordered c.below × RemembersRightly H.meaning c) (λ e. H.ordered e.value) }
     {
+        // By `match`, since either arm takes `below`.
         match Memory::new(heap) {
             Ok(memory) => Ok(Cache { below, memory }),
             Err(_) => Err(AllocFailed { value: below }),
@@ -40,8 +41,7 @@ impl<H: LayoutPartialTree> Cache<H> {
     pub fn into_inner(self) -> H
         ensures { result ≡ self.below }
     {
-        let Cache { below, memory: _ } = self;
-        below
+        self.below
     }
 }
 

@@ -1,6 +1,6 @@
 // A layer that counts the questions that go through it.
 ghost use Rattle.std.specs.Prelude.{◌≡◌};
-ghost use Rattle.tree.specs.Meaning.{measures, lays_out, fetches, stores, with_stored, up, raise};
+ghost use Rattle.tree.specs.Meaning.{measures, lays_out, fetches, stores, with_stored, raise};
 ghost use Rattle.layers.specs.Layers.{counted};
 
 use geometry::Size;
@@ -16,12 +16,6 @@ pub struct Tally<H> {
     below: H,
     measurements: u32,
     layouts: u32,
-}
-
-fn one_more(count: &mut u32)
-    ensures { count.new ≡ up count.old 1 }
-{
-    *count = count.saturating_add(1);
 }
 
 impl<H> Tally<H> {
@@ -58,12 +52,7 @@ impl<H> Tally<H> {
     pub fn into_inner(self) -> H
         ensures { result ≡ self.below }
     {
-        let Tally {
-            below,
-            measurements: _,
-            layouts: _,
-        } = self;
-        below
+        self.below
     }
 }
 
@@ -82,7 +71,7 @@ impl<H: LayoutPartialTree> LayoutPartialTree for Tally<H> {
         ensures counts { counted self.new ≡ raise 1 0 (counted self.old) }
         ensures below { H.tallied self.new.below ≡ raise 1 0 (H.tallied self.old.below) }
     {
-        one_more(&mut self.measurements);
+        self.measurements = self.measurements.saturating_add(1);
         self.below.measure(question)
     }
 
@@ -94,7 +83,7 @@ impl<H: LayoutPartialTree> LayoutPartialTree for Tally<H> {
         ensures counts { counted self.new ≡ raise 0 1 (counted self.old) }
         ensures below { H.tallied self.new.below ≡ raise 0 1 (H.tallied self.old.below) }
     {
-        one_more(&mut self.layouts);
+        self.layouts = self.layouts.saturating_add(1);
         self.below.perform_layout(question)
     }
 

@@ -2,11 +2,13 @@
 use Rattle.std.proofs.Common.{◌≡◌, ℕ, zero, suc, ◌+◌, ◌*◌, ◌^◌, ◌<◌, ◌≤◌, Bool, true, false, cond, not, T, eqb, List, [], ◌∷◌, map, length, get_or, take, sym, refl, ap, ◌∙◌, subst, le_of_suc-le-suc, not-suc-le-zero, mul-le-mul_right, arith, lit<, lit≤}
 use mathlib.Core.List.{reverse_aux}
 use lib.Ieee.{Float, nan, inf, fin, binary32, le, is_nan, fits}
+use lib.Ieee.Bits.{is_true}
 use lib.Ieee.Fits.{add-fits}
 use lib.Ieee.Scale.{finite}
 use Rattle.std.specs.Float.Order.{le_refl}
+use Rattle.std.proofs.lemmas.Bool.{cond_both}
 use Rattle.std.proofs.num.FloatSigns.{zero_is}
-use Rattle.std.proofs.lemmas.List.{length-reverse, length-map, reverse-reverse}
+use Rattle.std.proofs.lemmas.List.{length-map}
 use Rattle.geometry.specs.declared.Line.{Line}
 use Rattle.number.specs.Limits.{in_limits}
 use Rattle.number.specs.Sizes.{Within, Bounded, Each}
@@ -24,6 +26,7 @@ use Rattle.tracks.specs.declared.track_alignment.TrackAlignment.{TrackAlignment}
 use Rattle.tracks.specs.declared.walk.TrackWalk.{TrackWalk}
 use Rattle.tracks.proofs.Chains.{chain}
 use Rattle.tracks.proofs.Counts.{count_bound}
+use Rattle.tracks.proofs.Walks.{length_in_order, twice_in_order}
 use Rattle.tracks.proofs.Shares.{leaves_gaps, axis_gaps, gap_sign, first_within, gap_within}
 
 -- ---- sizes in units of 2 ^ 20: bounds of sums add up like whole numbers
@@ -42,24 +45,23 @@ Offsets q ts = Each (Within q 20) (map (λ t. t.offset) ts)
 
 -- ---- the walk
 
-begins_within : (a : TrackAlignment) (seen l : Bool) (x : Float) (p : ℕ) → p + 514 < 2 ^ 24 → Within p 20 x → Within 514 20 a.first_share → Within 514 20 a.gap → Within (p + 514) 20 (begins a seen l x)
-begins_within a true true x p P w f g = plus_within p 514 (p + 514) x a.gap (omega arith) P w g
-begins_within a false true x p P w f g = plus_within p 514 (p + 514) x a.first_share (omega arith) P w f
-begins_within a seen false x p P w f g = weaken p (p + 514) x (omega arith) w
+begin_within : (l : Bool) (x s : Float) (p : ℕ) → p + 514 < 2 ^ 24 → Within p 20 x → Within 514 20 s → Within (p + 514) 20 (cond l (plus x s) x)
+begin_within true x s p P w f = plus_within p 514 (p + 514) x s (omega arith) P w f
+begin_within false x s p P w f = weaken p (p + 514) x (omega arith) w
 
-walk_within : (w : TrackWalk) (ts : List GridTrack) (p r : ℕ) → p + 515 * length ts ≤ r → r < 2 ^ 24 → Within p 20 w.place → Within 514 20 w.alignment.first_share → Within 514 20 w.alignment.gap → Sized ts
-    → Offsets r (walked w ts)
-walk_within w [] p r h R a f g s = tt
-walk_within w (t ∷ ts) p r h R a f g s =
+walk_within : (odd : Bool) (w : TrackWalk) (ts : List GridTrack) (p r : ℕ) → p + 515 * length ts ≤ r → r < 2 ^ 24 → Within p 20 w.place → Within 514 20 w.share → Within 514 20 w.gap → Sized ts → Offsets r (walked odd w ts)
+walk_within odd w [] p r h R a f g s = tt
+walk_within odd w (t ∷ ts) p r h R a f g s =
     let P : p + 514 < 2 ^ 24 = omega arith in
-    let b = begins_within w.alignment w.seen (live w.odd t) w.place p P a f g in (
-      weaken (p + 514) r (begin w t) (omega arith) b,
-      walk_within (onward w t) ts (p + 515) r (omega arith) R (plus_within (p + 514) 1 (p + 515) (begin w t) t.base_size (omega arith) (omega arith) b s.0) f g s.1,
+    let b = begin_within (live odd t) w.place w.share p P a f in (
+      weaken (p + 514) r (begin odd w t) (omega arith) b,
+      walk_within (not odd) (onward odd w t) ts (p + 515) r (omega arith) R (plus_within (p + 514) 1 (p + 515) (begin odd w t) t.base_size (omega arith) (omega arith) b s.0)
+          (cond_both (live odd t) w.gap w.share (Within 514 20) (λ _. g) (λ _. f)) g s.1,
     )
 
-sized_along : (w : TrackWalk) (ts : List GridTrack) → Sized ts → Sized (walked w ts)
-sized_along w [] s = tt
-sized_along w (t ∷ ts) s = (s.0, sized_along (onward w t) ts s.1)
+sized_along : (odd : Bool) (w : TrackWalk) (ts : List GridTrack) → Sized ts → Sized (walked odd w ts)
+sized_along odd w [] s = tt
+sized_along odd w (t ∷ ts) s = (s.0, sized_along (not odd) (onward odd w t) ts s.1)
 
 -- ---- what holds of each track holds of each the other way round
 
@@ -71,17 +73,9 @@ turned : (P : Float → Type 0) (f : GridTrack → Float) (rev : Bool) (ts : Lis
 turned P f false ts a = a
 turned P f true ts a = onto P f ts [] a tt
 
-length_in_order : (rev : Bool) (ts : List GridTrack) → length (in_order rev ts) ≡ length ts
-length_in_order false ts = refl
-length_in_order true ts = length-reverse ts
-
-length_walked : (w : TrackWalk) (ts : List GridTrack) → length (walked w ts) ≡ length ts
-length_walked w [] = refl
-length_walked w (t ∷ ts) = ap suc (length_walked (onward w t) ts)
-
-twice_in_order : (rev : Bool) (ts : List GridTrack) → in_order rev (in_order rev ts) ≡ ts
-twice_in_order false ts = refl
-twice_in_order true ts = reverse-reverse ts
+length_walked : (odd : Bool) (w : TrackWalk) (ts : List GridTrack) → length (walked odd w ts) ≡ length ts
+length_walked odd w [] = refl
+length_walked odd w (t ∷ ts) = ap suc (length_walked (not odd) (onward odd w t) ts)
 
 -- ---- no track begins before the one walked before it ends
 
@@ -106,16 +100,12 @@ begins_later a true p q x f w g z =
     add_grows binary32 x a.gap f (finite_within p x w) (finite_within q a.gap g) (subst (λ (o : Float). T (le o a.gap)) (zero_is binary32) z)
 begins_later a false p q x f w g z = le_refl x (number_within p x w)
 
-truth : (b : Bool) → T b → b ≡ true
-truth true t = refl
-truth false t = absurd t
-
 apart : (a : TrackAlignment) (start : Float) (odd : Bool) (ws : List GridTrack) → Chain a start odd ws → Offsets 524288 ws → Sized ws → Within 514 20 a.gap → T (le Distribution.zero a.gap) → Apart odd ws
 apart a start odd ws c o z g n k d h l =
     let here : suc k ≤ length ws = omega arith in
     let t = get_or ws k d in
     let u = get_or ws (suc k) d in
-    let e = c.next k d h ∙ ap (λ b. begins a b (live (odd_at odd (suc k)) u) (end t)) (truth (any_live odd (take (suc k) ws)) l) in
+    let e = c.next k d h ∙ ap (λ b. begins a b (live (odd_at odd (suc k)) u) (end t)) (is_true (any_live odd (take (suc k) ws)) l) in
     subst (λ (y : Float). T (le (end t) y)) (sym e)
     (begins_later a (live (odd_at odd (suc k)) u) 524289 514 (end t) (add-fits binary32 t.offset t.base_size)
     (plus_within 524288 1 524289 t.offset t.base_size (omega arith) (omega arith) (at (Within 524288 20) (λ v. v.offset) ws k d here o) (at (Within 1 20) (λ v. v.base_size) ws k d here z)) g n)
@@ -138,7 +128,10 @@ module _ (content : Float) (padding border : Line Float) (style : AlignContent) 
   origin = plus padding.start border.start
 
   abbrev start : TrackWalk
-  start = start_walk origin alignment rev (length ts)
+  start = start_walk origin alignment
+
+  abbrev odd : Bool
+  odd = starts_odd rev (length ts)
 
   sized : Sized ts
   sized = each_bounded (base_sizes ts) r.sizes
@@ -178,24 +171,24 @@ module _ (content : Float) (padding border : Line Float) (style : AlignContent) 
       go false = weaken 2 516 origin (lit≤ tt) origin_in
 
   abbrev walk : List GridTrack
-  walk = walked start (in_order rev ts)
+  walk = walked odd start (in_order rev ts)
 
   sized_in_order : Sized (in_order rev ts)
   sized_in_order = turned (Within 1 20) (λ t. t.base_size) rev ts sized
 
   walk_in : Offsets 524288 walk
-  walk_in = walk_within start (in_order rev ts) 516 524288 (omega (arith, length_in_order rev ts, r.few)) (lit< tt) start_in first_in gap_in sized_in_order
+  walk_in = walk_within odd start (in_order rev ts) 516 524288 (omega (arith, length_in_order rev ts, r.few)) (lit< tt) start_in first_in gap_in sized_in_order
 
-  walk_apart : Apart (starts_odd rev (length ts)) walk
-  walk_apart = apart alignment (start_place origin alignment) (starts_odd rev (length ts)) walk (chain start (in_order rev ts) refl) walk_in (sized_along start (in_order rev ts) sized_in_order) gap_in gap_up
+  walk_apart : Apart odd walk
+  walk_apart = apart alignment (start_place origin alignment) odd walk (chain origin alignment odd (in_order rev ts)) walk_in (sized_along odd start (in_order rev ts) sized_in_order) gap_in gap_up
 
   same_length : length (aligned content origin style rev ts) ≡ length ts
-  same_length = length_in_order rev walk ∙ length_walked start (in_order rev ts) ∙ length_in_order rev ts
+  same_length = length_in_order rev walk ∙ length_walked odd start (in_order rev ts) ∙ length_in_order rev ts
 
   pub well_placed : WellPlaced rev (aligned content origin style rev ts)
   well_placed = record {
     offsets_finite = each_wider (map (λ t. t.offset) (in_order rev walk)) (turned (Within 524288 20) (λ t. t.offset) rev walk walk_in);
     tracks_apart =
         subst (λ (n : ℕ). Apart (starts_odd rev n) (in_order rev (in_order rev walk))) (sym same_length)
-        (subst (Apart (starts_odd rev (length ts))) (sym (twice_in_order rev walk)) walk_apart);
+        (subst (Apart odd) (sym (twice_in_order rev walk)) walk_apart);
   }

@@ -1,14 +1,14 @@
 -- The shares of the free space: a gap is only left between two live tracks or more, is not negative, and no share is larger than the space.
-use Rattle.std.proofs.Common.{◌≡◌, ℕ, ◌+◌, ◌-◌, ◌*◌, ◌^◌, ◌<◌, ◌≤◌, Bool, true, false, cond, not, ◌||◌, T, leb, sym, refl, subst, arith, lit≤}
+use Rattle.std.proofs.Common.{◌≡◌, ℕ, ◌+◌, ◌-◌, ◌*◌, ◌^◌, ◌<◌, ◌≤◌, Bool, true, false, cond, not, ◌||◌, T, leb, min, pos, sym, refl, ap, ◌∙◌, subst, ⊎_elim, arith, lit≤}
 use lib.Dec.{nleb→lt}
-use lib.Ieee.{Float, binary32, round, le, lt, eq, of_int, of_bits}
+use lib.Ieee.{Float, fin, binary32, round, le, lt, eq, of_int, of_bits}
 use lib.Ieee.Back.{round_whole}
 use lib.Ieee.Positive.{positive, positive_of_value}
 use Rattle.std.specs.Float as Floats
 use Rattle.std.specs.Float.{float_max}
+use Rattle.std.proofs.lemmas.Bool.{cases_lt, cond_both}
 use Rattle.std.proofs.num.FloatSigns.{zero_is}
 use Rattle.number.specs.Sizes.{Within, AtLeast}
-use Rattle.number.proofs.Order.{cond_both}
 use Rattle.number.proofs.Signs.{div_sign, most_zero}
 use Rattle.number.proofs.Sizes.{div_within, share_within, most_within, zero_within}
 use Rattle.style.specs.Alignment.{reversed}
@@ -37,7 +37,7 @@ abbrev NoGaps : AlignContentKeyword → Type 0
 NoGaps k = T (leaves_gaps k) → ⊥
 
 start_or : (b : Bool) (k : AlignContentKeyword) → NoGaps k → NoGaps (cond b Start k)
-start_or b k n = cond_both NoGaps b Start k (λ h. h) n
+start_or b k n = cond_both b Start k NoGaps (λ _. λ h. h) (λ _. n)
 
 fallen_back : (free : Float) (k : AlignContentKeyword) (s : AlignmentSafety) → NoGaps (overflow_position free (fallback k (record { keyword = k; safety = s })))
 fallen_back free Normal s = start_or _ FlexStart (λ h. h)
@@ -74,6 +74,20 @@ reversed_gaps SpaceAround = refl
 pub axis_gaps : (free : Float) (n : ℕ) (a : AlignContent) (rev : Bool) → T (leaves_gaps (along_axis rev (used_alignment free n a))) → 1 < n
 axis_gaps free n a false t = used_gaps free n a t
 axis_gaps free n a true t = used_gaps free n a (subst T (reversed_gaps (used_alignment free n a)) t)
+
+-- ---- counts
+
+-- the largest count is rounded up to one more
+most_rounded : count (2 ^ 64 - 1) ≡ fin false 1 (pos 64)
+unfolding of_int
+most_rounded = refl
+
+one_more_rounded : count (2 ^ 64) ≡ fin false 1 (pos 64)
+unfolding of_int
+one_more_rounded = refl
+
+pub count_saturated : (n : ℕ) → n < 2 ^ 64 → count (min (n + 1) (2 ^ 64 - 1)) ≡ count (n + 1)
+count_saturated n h = ⊎_elim (λ l. ap count (omega arith)) (λ l. ap count (omega arith) ∙ most_rounded ∙ sym one_more_rounded ∙ ap count (omega arith)) (cases_lt n (2 ^ 64 - 1))
 
 -- ---- signs
 

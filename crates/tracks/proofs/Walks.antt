@@ -1,63 +1,107 @@
--- One turn and the end of the walk, forward and backward.
-use Rattle.std.proofs.Common.{◌≡◌, ℕ, ◌+◌, ◌-◌, ◌<◌, ◌≤◌, List, [], ◌∷◌, ◌++◌, reverse, length, get_or, take, drop, set, ap, ◌∙◌, append_assoc, arith}
-use Rattle.std.proofs.lemmas.List.{take_more, take_more_set, take-set, take_all, drop-set, drop-set-lt, drop_all, at_drop_more, at_drop_all, append-nil, reverse-append}
-use Rattle.tracks.specs.Tracks.{positioned, onward, walked}
+-- One turn and the end of the walk along an axis that is reversed or not.
+use Rattle.std.proofs.Common.{◌≡◌, ℕ, zero, suc, ◌+◌, ◌-◌, ◌%◌, ◌<◌, ◌≤◌, Bool, true, false, not, eqb, List, [], ◌∷◌, ◌++◌, reverse, length, get_or, take, drop, set, sym, refl, ap, ◌∙◌, append_assoc, add-zero, arith}
+use Rattle.std.proofs.lemmas.Bool.Decides.{nat_tests}
+use Rattle.std.proofs.lemmas.List.{take_more_set, take_all, drop-set-lt, at_drop_more, at_drop_all, append-nil, reverse-append, reverse-reverse, length-reverse, length-set, get_or-reverse, set_at, set-append_left}
+use Rattle.tracks.specs.Tracks.{positioned, onward, walked, starts_odd, in_order}
 use Rattle.tracks.specs.declared.grid_track.GridTrack.{GridTrack}
 use Rattle.tracks.specs.declared.walk.TrackWalk.{TrackWalk}
+use Rattle.tracks.proofs.Counts.{odd_next}
 
--- what the walk from place i on leaves
-abbrev pub Forward : List GridTrack → ℕ → TrackWalk → List GridTrack
-Forward ts i w = take i ts ++ walked w (drop i ts)
+-- where the track is stored that comes k places later in the walk along n tracks
+abbrev pub stored_at : (rev : Bool) (n k : ℕ) → ℕ
+stored_at false n k = k
+stored_at true n k = n - 1 - k
 
-pub forward_more : (ts all : List GridTrack) (i : ℕ) (w v : TrackWalk) (u d : GridTrack) → i < length ts → u ≡ positioned w (get_or ts i d) → v ≡ onward w (get_or ts i d)
-    → Forward ts i w ≡ all → Forward (set ts i u) (i + 1) v ≡ all
-forward_more ts all i w v u d l hu hv inv =
-    let below : i < i + 1 = omega arith in
-    let a = take_more_set ts i u l in
-    let b = drop-set-lt (i + 1) ts i u below in
-    let e : walked w (drop i ts) ≡ positioned w (get_or ts i d) ∷ walked (onward w (get_or ts i d)) (drop (i + 1) ts) = at_drop_more (walked w) ts i d l in
-    let j = append_assoc (take i ts) (u ∷ []) (walked v (drop (i + 1) ts)) in
+-- whether that index is odd, and so on past the end
+abbrev pub is_odd : (rev : Bool) (n k : ℕ) → Bool
+is_odd false n k = eqb (k % 2) 1
+is_odd true n k = eqb ((n + k) % 2) 0
+
+pub starts : (rev : Bool) (n : ℕ) → is_odd rev n 0 ≡ starts_odd rev n
+starts false n = refl
+starts true n = ap (λ (m : ℕ). eqb (m % 2) 0) (add-zero n)
+
+pub odd_there : (rev : Bool) (n k : ℕ) → k < n → eqb (stored_at rev n k % 2) 1 ≡ is_odd rev n k
+odd_there false n k h = refl
+odd_there true n k h = grind (arith, nat_tests)
+
+odd_later : (rev : Bool) (n k : ℕ) → is_odd rev n (k + 1) ≡ not (is_odd rev n k)
+odd_later false n k = odd_next k
+odd_later true n k = grind (arith, nat_tests)
+
+-- ---- tracks in the order of the walk
+
+reverse_set : {X : Type 0} (xs : List X) (j k : ℕ) (y : X) → j + k + 1 ≡ length xs → reverse (set xs j y) ≡ set (reverse xs) k y
+reverse_set [] j k y h = absurd (omega arith)
+reverse_set (x ∷ xs) zero k y h =
+    let n : length (reverse xs) ≡ k = omega (arith, length-reverse xs) in
+    reverse-append (y ∷ []) xs ∙ sym (ap (λ l. set l k y) (reverse-append (x ∷ []) xs) ∙ set_at (reverse xs) x [] y k n)
+reverse_set (x ∷ xs) (suc j) k y h =
+    let n : k < length (reverse xs) = omega (arith, length-reverse xs) in
+    reverse-append (x ∷ []) (set xs j y) ∙ ap (λ l. l ++ x ∷ []) (reverse_set xs j k y (omega arith)) ∙ sym (ap (λ l. set l k y) (reverse-append (x ∷ []) xs) ∙ set-append_left (reverse xs) (x ∷ []) k y n)
+
+set_in_order : (rev : Bool) (ts : List GridTrack) (k : ℕ) (u : GridTrack) → k < length ts → in_order rev (set ts (stored_at rev (length ts) k) u) ≡ set (in_order rev ts) k u
+set_in_order false ts k u h = refl
+set_in_order true ts k u h = reverse_set ts (length ts - 1 - k) k u (omega arith)
+
+get_in_order : (rev : Bool) (ts : List GridTrack) (k : ℕ) (d : GridTrack) → k < length ts → get_or (in_order rev ts) k d ≡ get_or ts (stored_at rev (length ts) k) d
+get_in_order false ts k d h = refl
+get_in_order true ts k d h = get_or-reverse ts k d h
+
+pub length_in_order : (rev : Bool) (ts : List GridTrack) → length (in_order rev ts) ≡ length ts
+length_in_order false ts = refl
+length_in_order true ts = length-reverse ts
+
+pub twice_in_order : (rev : Bool) (ts : List GridTrack) → in_order rev (in_order rev ts) ≡ ts
+twice_in_order false ts = refl
+twice_in_order true ts = reverse-reverse ts
+
+-- ---- the walk from place k on, tracks in its order
+
+abbrev pub Onward : (odd : Bool) → List GridTrack → ℕ → TrackWalk → List GridTrack
+Onward odd ws k w = take k ws ++ walked odd w (drop k ws)
+
+onward_more : (odd : Bool) (ws : List GridTrack) (k : ℕ) (w v : TrackWalk) (u d : GridTrack) → k < length ws → u ≡ positioned odd w (get_or ws k d) → v ≡ onward odd w (get_or ws k d)
+    → Onward (not odd) (set ws k u) (k + 1) v ≡ Onward odd ws k w
+onward_more odd ws k w v u d l hu hv =
+    let below : k < k + 1 = omega arith in
+    let a = take_more_set ws k u l in
+    let b = drop-set-lt (k + 1) ws k u below in
+    let e : walked odd w (drop k ws) ≡ positioned odd w (get_or ws k d) ∷ walked (not odd) (onward odd w (get_or ws k d)) (drop (k + 1) ws) = at_drop_more (walked odd w) ws k d l in
+    let j = append_assoc (take k ws) (u ∷ []) (walked (not odd) v (drop (k + 1) ws)) in
     cc
 
-pub forward_all : (ts all : List GridTrack) (i : ℕ) (w : TrackWalk) → length ts ≤ i → Forward ts i w ≡ all → ts ≡ all
-forward_all ts all i w l inv =
-    let a = take_all i ts l in
-    let e : walked w (drop i ts) ≡ [] = at_drop_all (walked w) ts i l in
-    let n = append-nil ts in
+onward_all : (odd : Bool) (ws : List GridTrack) (k : ℕ) (w : TrackWalk) → length ws ≤ k → Onward odd ws k w ≡ ws
+onward_all odd ws k w l =
+    let a = take_all k ws l in
+    let e : walked odd w (drop k ws) ≡ [] = at_drop_all (walked odd w) ws k l in
+    let n = append-nil ws in
     cc
 
--- what the walk back over the first i leaves
-abbrev pub Backward : List GridTrack → ℕ → TrackWalk → List GridTrack
-Backward ts i w = reverse (walked w (reverse (take i ts))) ++ drop i ts
+-- what the walk leaves, in its order, once it went k places and stands at w
+abbrev pub Left : (rev : Bool) → List GridTrack → ℕ → TrackWalk → List GridTrack
+Left rev ts k w = Onward (is_odd rev (length ts) k) (in_order rev ts) k w
 
-back_one : (ts : List GridTrack) (j : ℕ) (w v : TrackWalk) (u d : GridTrack) → j < length ts → u ≡ positioned w (get_or ts j d) → v ≡ onward w (get_or ts j d)
-    → Backward (set ts j u) j v ≡ Backward ts (j + 1) w
-back_one ts j w v u d l hu hv =
-    let x = get_or ts j d in
-    let a = take-set ts j u in
-    let b = drop-set ts j u l in
-    let m : take (j + 1) ts ≡ take j ts ++ x ∷ [] = take_more ts j d l in
-    let r : reverse (take j ts ++ x ∷ []) ≡ x ∷ reverse (take j ts) = reverse-append (take j ts) (x ∷ []) in
-    let rest = walked (onward w x) (reverse (take j ts)) in
-    let all : walked w (reverse (take (j + 1) ts)) ≡ positioned w x ∷ rest = ap (walked w) (ap reverse m ∙ r) in
-    let turn : reverse (positioned w x ∷ rest) ≡ reverse rest ++ positioned w x ∷ [] = reverse-append (positioned w x ∷ []) rest in
-    let join = append_assoc (reverse rest) (positioned w x ∷ []) (drop (j + 1) ts) in
-    cc
+pub left_first : (rev : Bool) (ts : List GridTrack) (w : TrackWalk) → Left rev ts 0 w ≡ walked (starts_odd rev (length ts)) w (in_order rev ts)
+left_first rev ts w = ap (λ odd. walked odd w (in_order rev ts)) (starts rev (length ts))
 
-pub backward_more : (ts all : List GridTrack) (i : ℕ) (w v : TrackWalk) (u d : GridTrack) → 0 < i → i ≤ length ts → u ≡ positioned w (get_or ts (i - 1) d) → v ≡ onward w (get_or ts (i - 1) d)
-    → Backward ts i w ≡ all → Backward (set ts (i - 1) u) (i - 1) v ≡ all
-backward_more ts all i w v u d p l hu hv inv =
-    let e : i - 1 + 1 ≡ i = omega arith in
-    back_one ts (i - 1) w v u d (omega arith) hu hv ∙ ap (λ (k : ℕ). Backward ts k w) e ∙ inv
+pub left_more : (rev : Bool) (ts all : List GridTrack) (k i : ℕ) (w v : TrackWalk) (u d : GridTrack) → k < length ts → i ≡ stored_at rev (length ts) k
+    → u ≡ positioned (eqb (i % 2) 1) w (get_or ts i d) → v ≡ onward (eqb (i % 2) 1) w (get_or ts i d) → Left rev ts k w ≡ all → Left rev (set ts i u) (k + 1) v ≡ all
+left_more rev ts all k i w v u d l at hu hv inv =
+    let n = length ts in
+    let ws = in_order rev ts in
+    let o : eqb (i % 2) 1 ≡ is_odd rev n k = ap (λ j. eqb (j % 2) 1) at ∙ odd_there rev n k l in
+    let g : get_or ws k d ≡ get_or ts i d = get_in_order rev ts k d l ∙ ap (λ j. get_or ts j d) (sym at) in
+    let s : in_order rev (set ts i u) ≡ set ws k u = ap (λ j. in_order rev (set ts j u)) at ∙ set_in_order rev ts k u l in
+    let m : length (set ts i u) ≡ n = length-set ts i u in
+    let p : is_odd rev n (k + 1) ≡ not (is_odd rev n k) = odd_later rev n k in
+    let h : k < length ws = omega (arith, length_in_order rev ts) in
+    let hu' : u ≡ positioned (is_odd rev n k) w (get_or ws k d) = cc in
+    let hv' : v ≡ onward (is_odd rev n k) w (get_or ws k d) = cc in
+    let one = onward_more (is_odd rev n k) ws k w v u d h hu' hv' in
+    ap (λ q. Onward (is_odd rev q (k + 1)) (in_order rev (set ts i u)) (k + 1) v) m ∙ ap (λ xs. Onward (is_odd rev n (k + 1)) xs (k + 1) v) s ∙ ap (λ odd. Onward odd (set ws k u) (k + 1) v) p ∙ one ∙ inv
 
-pub backward_none : (ts : List GridTrack) (w : TrackWalk) → Backward ts (length ts) w ≡ reverse (walked w (reverse ts))
-backward_none ts w =
-    let t = take_all (length ts) ts (omega arith) in
-    let d = drop_all (length ts) ts (omega arith) in
-    let n = append-nil (reverse (walked w (reverse ts))) in
-    cc
-
-pub backward_all : (ts all : List GridTrack) (i : ℕ) (w : TrackWalk) → i ≤ 0 → Backward ts i w ≡ all → ts ≡ all
-backward_all ts all i w l inv =
-    let z : 0 ≡ i = omega arith in
-    ap (λ (k : ℕ). Backward ts k w) z ∙ inv
+pub left_all : (rev : Bool) (ts all : List GridTrack) (k : ℕ) (w : TrackWalk) → length ts ≤ k → Left rev ts k w ≡ all → ts ≡ in_order rev all
+left_all rev ts all k w l inv =
+    let h : length (in_order rev ts) ≤ k = omega (arith, length_in_order rev ts) in
+    sym (twice_in_order rev ts) ∙ ap (in_order rev) (sym (onward_all (is_odd rev (length ts) k) (in_order rev ts) k w h) ∙ inv)

@@ -1,5 +1,5 @@
 -- The tracks of one axis: which are live, what they use, and the walk that gives each its offset.
-use Rattle.std.specs.Prelude.{ℕ, ◌+◌, ◌%◌, Bool, true, false, cond, not, ◌&&◌, ◌||◌, List, [], ◌∷◌, map, reverse, length, ◌==◌, Float}
+use Rattle.std.specs.Prelude.{ℕ, ◌+◌, ◌%◌, Bool, true, false, cond, not, ◌&&◌, List, [], ◌∷◌, map, reverse, length, ◌==◌, Float}
 use Rattle.std.specs.Float.{binary32}
 use Rattle.std.specs.Float.Ieee.{add, sub}
 use Rattle.number.specs.Sizes.{total}
@@ -61,18 +61,21 @@ abbrev pub begins : TrackAlignment → (seen live : Bool) → Float → Float
 begins a seen true place = plus place (cond seen a.gap a.first_share)
 begins a seen false place = place
 
-abbrev pub begin : TrackWalk → GridTrack → Float
-begin w t = begins w.alignment w.seen (live w.odd t) w.place
+-- where a track begins, the walk standing at w
+abbrev pub begin : (odd : Bool) → TrackWalk → GridTrack → Float
+begin odd w t = cond (live odd t) (plus w.place w.share) w.place
 
-abbrev pub positioned : TrackWalk → GridTrack → GridTrack
-positioned w t = record { is_collapsed = t.is_collapsed; offset = begin w t; base_size = t.base_size }
+abbrev pub positioned : (odd : Bool) → TrackWalk → GridTrack → GridTrack
+positioned odd w t = record { is_collapsed = t.is_collapsed; offset = begin odd w t; base_size = t.base_size }
 
-abbrev pub onward : TrackWalk → GridTrack → TrackWalk
-onward w t = record { alignment = w.alignment; place = plus (begin w t) t.base_size; seen = w.seen || live w.odd t; odd = not w.odd }
+-- from the first live track on, what is left before a live track is the gap
+abbrev pub onward : (odd : Bool) → TrackWalk → GridTrack → TrackWalk
+onward odd w t = record { place = plus (begin odd w t) t.base_size; share = cond (live odd t) w.gap w.share; gap = w.gap }
 
-abbrev pub walked : TrackWalk → List GridTrack → List GridTrack
-walked w [] = []
-walked w (t ∷ ts) = positioned w t ∷ walked (onward w t) ts
+-- every second track has an odd index
+abbrev pub walked : (odd : Bool) → TrackWalk → List GridTrack → List GridTrack
+walked odd w [] = []
+walked odd w (t ∷ ts) = positioned odd w t ∷ walked (not odd) (onward odd w t) ts
 
 -- where there is no live track to stand before, the origin takes the first share
 abbrev pub start_place : Float → TrackAlignment → Float
@@ -82,8 +85,8 @@ start_place origin a = cond (a.num_tracks == 0) (plus origin a.first_share) orig
 abbrev pub starts_odd : (rev : Bool) → ℕ → Bool
 starts_odd rev n = rev && n % 2 == 0
 
-abbrev pub start_walk : Float → TrackAlignment → (rev : Bool) → ℕ → TrackWalk
-start_walk origin a rev n = record { alignment = a; place = start_place origin a; seen = false; odd = starts_odd rev n }
+abbrev pub start_walk : Float → TrackAlignment → TrackWalk
+start_walk origin a = record { place = start_place origin a; share = a.first_share; gap = a.gap }
 
 -- tracks in the order of the walk, and back in storage order
 abbrev pub in_order : (rev : Bool) → List GridTrack → List GridTrack
@@ -92,4 +95,4 @@ in_order true ts = reverse ts
 
 abbrev pub aligned : Float → Float → AlignContent → (rev : Bool) → List GridTrack → List GridTrack
 aligned content origin style rev ts =
-    in_order rev (walked (start_walk origin (track_alignment content style rev ts) rev (length ts)) (in_order rev ts))
+    in_order rev (walked (starts_odd rev (length ts)) (start_walk origin (track_alignment content style rev ts)) (in_order rev ts))

@@ -2,7 +2,7 @@
 ghost use Rattle.std.specs.Prelude.{◌≡◌};
 ghost use Rattle.tracks.specs.Tracks.{track_alignment};
 
-use crate::distribution::{apply_alignment_fallback, first_share, gap};
+use crate::distribution::{Distribution, apply_alignment_fallback};
 use crate::grid_track::{GridTrack, live_count, used_size};
 use style::alignment::{AlignContent, AlignContentKeyword};
 
@@ -35,13 +35,18 @@ impl TrackAlignment {
         } else {
             keyword
         };
+        let distribution = Distribution {
+            free_space,
+            num_items: num_tracks,
+            keyword,
+        };
         TrackAlignment {
             used_size,
             free_space,
             num_tracks,
             keyword,
-            first_share: first_share(free_space, num_tracks, keyword),
-            gap: gap(free_space, num_tracks, keyword),
+            first_share: distribution.first_share(),
+            gap: distribution.gap(),
         }
     }
 }

@@ -1,6 +1,6 @@
 // The walk along the tracks of one axis, which gives each its offset.
-ghost use Rattle.std.specs.Prelude.{◌≡◌, reverse};
-ghost use Rattle.tracks.specs.Tracks.{plus, positioned, onward, walked, start_walk, in_order, aligned};
+ghost use Rattle.std.specs.Prelude.{◌≡◌, ◌%◌, ◌==◌, length};
+ghost use Rattle.tracks.specs.Tracks.{plus, positioned, onward, walked, start_walk, starts_odd, in_order, aligned};
 ghost use Rattle.tracks.specs.Laws.{Laws};
 
 use crate::grid_track::GridTrack;
@@ -8,84 +8,57 @@ use crate::track_alignment::TrackAlignment;
 use geometry::Line;
 use style::alignment::AlignContent;
 
-// Where the walk stands: the next free place, whether a live track was seen, and the parity of the index that comes next.
+// Where the walk stands: the next free place, and the space that is left before the next live track, which after the first is the gap.
 #[derive(Clone, Copy)]
 pub struct TrackWalk {
-    alignment: TrackAlignment,
     place: f32,
-    seen: bool,
-    odd: bool,
+    share: f32,
+    gap: f32,
 }
 
 impl TrackWalk {
-    fn position_track(&mut self, track: &mut GridTrack)
-        ensures track { track.new ≡ positioned self.old track.old }
-        ensures walk { self.new ≡ onward self.old track.old }
+    // The walk before its first track. Where there is no live track to stand before, the origin takes the first share.
+    fn start(origin: f32, alignment: TrackAlignment) -> TrackWalk
+        ensures { result ≡ start_walk origin alignment }
     {
-        let live = self.odd && !track.is_collapsed;
-        if live {
-            self.place += if self.seen {
-                self.alignment.gap
-            } else {
-                self.alignment.first_share
-            };
-            self.seen = true;
+        let place = if alignment.num_tracks == 0 {
+            origin + alignment.first_share
+        } else {
+            origin
+        };
+        TrackWalk {
+            place,
+            share: alignment.first_share,
+            gap: alignment.gap,
+        }
+    }
+
+    fn position_track(&mut self, index: usize, track: &mut GridTrack)
+        ensures track { track.new ≡ positioned (index % 2 == 1) self.old track.old }
+        ensures walk { self.new ≡ onward (index % 2 == 1) self.old track.old }
+    {
+        if track.is_live(index) {
+            self.place += self.share;
+            self.share = self.gap;
         }
         track.offset = self.place;
         self.place += track.base_size;
-        self.odd = !self.odd;
     }
 }
 
-fn walk_forward(tracks: &mut [GridTrack], start: TrackWalk)
-    ensures { tracks.new ≡ walked start tracks.old }
-{
-    let mut walk = start;
-    for track in tracks.iter_mut() {
-        walk.position_track(track);
-    }
-}
-
-fn walk_backward(tracks: &mut [GridTrack], start: TrackWalk)
-    ensures { tracks.new ≡ reverse (walked start (reverse tracks.old)) }
-{
-    let mut walk = start;
-    for i in (0..tracks.len()).rev() {
-        walk.position_track(&mut tracks[i]);
-    }
-}
-
-// The walk before its first track, which on a reversed axis is the last one stored.
-fn start_walk(
-    padding: Line<f32>,
-    border: Line<f32>,
-    alignment: TrackAlignment,
-    axis_is_reversed: bool,
-    len: usize,
-) -> TrackWalk
-    ensures { result ≡ start_walk (plus padding.start border.start) alignment axis_is_reversed len }
-{
-    let origin = padding.start + border.start;
-    let place = if alignment.num_tracks == 0 {
-        origin + alignment.first_share
-    } else {
-        origin
-    };
-    TrackWalk {
-        alignment,
-        place,
-        seen: false,
-        odd: axis_is_reversed & (len % 2 == 0),
-    }
-}
-
+// Along a reversed axis the walk begins at the track that is stored last.
 fn walk_tracks(tracks: &mut [GridTrack], start: TrackWalk, axis_is_reversed: bool)
-    ensures { tracks.new ≡ in_order axis_is_reversed (walked start (in_order axis_is_reversed tracks.old)) }
+    ensures { tracks.new ≡ in_order axis_is_reversed (walked (starts_odd axis_is_reversed (length tracks.old)) start (in_order axis_is_reversed tracks.old)) }
 {
-    if axis_is_reversed {
-        walk_backward(tracks, start);
-    } else {
-        walk_forward(tracks, start);
+    let mut walk = start;
+    // By index: after `iter_mut().rev()` a proof knows no more of the tracks than how many they are.
+    for step in 0..tracks.len() {
+        let index = if axis_is_reversed {
+            tracks.len() - 1 - step
+        } else {
+            step
+        };
+        walk.position_track(index, &mut tracks[index]);
     }
 }
 
@@ -107,6 +80,7 @@ pub fn align_tracks(
         track_alignment_style,
         axis_is_reversed,
     );
-    let start = start_walk(padding, border, alignment, axis_is_reversed, tracks.len());
+    let origin = padding.start + border.start;
+    let start = TrackWalk::start(origin, alignment);
     walk_tracks(tracks, start, axis_is_reversed);
 }

@@ -1,18 +1,17 @@
-use Rattle.std.proofs.Common.{true, false, arith}
-use Rattle.std.proofs.lemmas.List.{at_drop_all}
-use Rattle.tracks.specs.Tracks.{live_count}
-use Rattle.tracks.proofs.Counts.{count_more, count_bound}
+use Rattle.std.proofs.Common.{ℕ, ◌%◌, eqb, ◌∙◌, rules, tests, arith}
+use Rattle.std.proofs.lemmas.Iterator.{YieldsList-from_slice}
+use Rattle.std.proofs.lemmas.Iterator.Consumers.{YieldsList-at, YieldsList-from_enumerate, YieldsList-from_filter, count_from_yields_List}
+use Rattle.tracks.specs.Tracks.{live}
+use Rattle.tracks.specs.declared.grid_track.GridTrack.{GridTrack}
+use Rattle.tracks.proofs.Counts.{live_by_index, count_bound}
 use Rattle.tracks.proofs.grid_track.live_count.Goals as goal
-use Rattle.tracks.proofs.grid_track.live_count.Goals.{then-live, else-live}
-
-pub loop-track-preserved : goal.loop-track-preserved
-loop-track-preserved c =
-    elim c.if-live.branch [
-      | then-live w ↦ (count_more c.args.tracks.now c.loop-track.track-index c.loop-track.n _ _ c.loop-track.odd true _ c.loop-track-test.true w.if-live.true (omega (arith, w.n-is)) c.loop-track.invariant.0, omega (arith, w.n-is))
-      | else-live w ↦ (count_more c.args.tracks.now c.loop-track.track-index c.loop-track.n _ _ c.loop-track.odd false _ c.loop-track-test.true w.if-live.false (omega (arith, w.n-is)) c.loop-track.invariant.0, omega (arith, w.n-is))
-    ]
 
 pub returns : goal.returns
 returns c =
-    let e = at_drop_all (live_count c.loop-track.odd) c.args.tracks.now c.loop-track.track-index c.loop-track-test.false in
-    record { value = omega (arith, e); bound = omega (arith, e, count_bound c.args.tracks.now) }
+    let ts = c.args.tracks.now in
+    let source = YieldsList-at c.filter.ensures.source (YieldsList-from_enumerate (YieldsList-at c.enumerate.ensures.source (YieldsList-from_slice ts (search rules))) (search rules)) in
+    let value =
+    count_from_yields_List c.filter.result c.count.result c.count.ensures.ran
+    (YieldsList-from_filter _ (λ (p : ℕ × GridTrack). live (eqb (p.0 % 2) 1) p.1) source c.filter.ensures.closure (λ x b q k. search (rules, tests)))
+    ∙ live_by_index 0 ts in
+    record { value = value; bound = omega (arith, value, count_bound ts) }

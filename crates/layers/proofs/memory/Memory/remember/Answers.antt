@@ -1,17 +1,12 @@
-use Rattle.std.proofs.Common.{◌≡◌, List, vec_items, sym, ap, ◌∙◌, subst, rules}
+use Rattle.std.proofs.Common.{◌≡◌, List, ap, ◌∙◌, arith}
+use Rattle.std.proofs.lemmas.Grind.{common_steps}
 use Rattle.layers.specs.declared.memory.Remembered.{Remembered}
-use Rattle.layers.specs.Remembering.{recalled, remembering, AllRight}
-use Rattle.layers.proofs.Newest.{remembering_right, newest_recalled}
+use Rattle.layers.specs.Remembering.{recalled, remembering}
+use Rattle.layers.proofs.Newest.{newest_recalled}
 use Rattle.layers.proofs.memory.Memory.remember.Goals as goal
 
-pub returns : goal.returns
-returns c =
-    let es = vec_items c.args.self.now.entries in
-    let q = c.args.question in
-    let s = c.args.size in
-    let list : vec_items c.push_reserved.new.self ≡ remembering es q s = search rules in
-    record {
-      list = list;
-      right = λ m all one. subst (AllRight m) (sym list) (remembering_right m es q s all one);
-      last = λ none numbers. ap (λ (l : List Remembered). recalled l q) list ∙ newest_recalled es q s none numbers;
-    }
+pub returns-then-is_free_of_nan-clause-last : goal.returns-then-is_free_of_nan-clause-last
+returns-then-is_free_of_nan-clause-last c =
+    let es = c.args.self.now in
+    let list : c.push_back.new.self.items ≡ remembering es c.args.question c.args.size = grind (arith, common_steps) in
+    λ none numbers. ap (λ (l : List Remembered). recalled l c.args.question) list ∙ newest_recalled es c.args.question c.args.size none numbers
