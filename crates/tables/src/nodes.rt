@@ -91,9 +91,8 @@ impl<R: OfNode + Copy> NodeTable<R> {
         ensures records { held_at R.OfNode.names self.new ≡ held_at R.OfNode.names self.old }
         ensures layouts { layout_at R.OfNode.names self.new ≡ layouts_with R.OfNode.names self.old node layout.now }
     {
-        let place = first_place(&self.slots, &node).ok_or(HostReason::UnknownNode.about(
-            node, None,
-        ))?;
+        let unknown = HostReason::UnknownNode.about(node, None);
+        let place = first_place(&self.slots, &node).ok_or(unknown)?;
         self.slots[place].layout = Some(*layout);
         Ok(())
     }
@@ -102,8 +101,7 @@ impl<R: OfNode + Copy> NodeTable<R> {
     pub fn stored(&self, node: u64) -> Result<Layout, HostFault>
         ensures { result ≡ (if is_some (held_at R.OfNode.names self.now node) then ok_or (layout_at R.OfNode.names self.now node) (no_answer node None) else Err (unknown_node node None)) }
     {
-        self.slot(node, None)?
-            .layout
-            .ok_or(HostReason::NoAnswer.about(node, None))
+        let slot = self.slot(node, None)?;
+        slot.layout.ok_or(HostReason::NoAnswer.about(node, None))
     }
 }
