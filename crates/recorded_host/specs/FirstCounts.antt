@@ -4,7 +4,8 @@ use Rattle.std.specs.Option.{option_or}
 use Rattle.std.specs.Bool.{then_some}
 use Rattle.tree.specs.declared.question.Question.{Question}
 use Rattle.recorded_host.specs.Records.{measurement_for, layout_for, candidate_for, calc_for}
-use Rattle.recorded_host.specs.Recorded.{Tables, node_record, calc_at, recorded_means, with_node, with_measurement, with_layout, with_candidate, with_calc}
+use Rattle.recorded_host.specs.Tables.{Tables}
+use Rattle.recorded_host.specs.Recorded.{node_record, calc_at, recorded_means, with_node, with_measurement, with_layout, with_candidate, with_calc}
 use Rattle.recorded_host.specs.declared.records.NodeRecord.{NodeRecord}
 use Rattle.recorded_host.specs.declared.records.MeasurementRecord.{MeasurementRecord}
 use Rattle.recorded_host.specs.declared.records.LayoutRecord.{LayoutRecord}

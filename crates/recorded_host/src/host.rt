@@ -1,17 +1,18 @@
 // The recorded host: what is asked of it is looked up in its tables.
-ghost use Rattle.std.specs.Prelude.{◌≡◌, Some, None};
+ghost use Rattle.std.specs.Prelude.{◌≡◌, None, Some};
+ghost use Rattle.std.specs.List.{find};
 ghost use Rattle.tables.specs.Added.{Added};
 ghost use Rattle.tree.specs.Meaning.{answers};
-ghost use Rattle.recorded_host.specs.Recorded.{InOrder, tables_of, no_tables, with_node, with_measurement, with_layout, with_candidate, with_calc, recorded, recorded_means};
+ghost use Rattle.recorded_host.specs.Recorded.{InOrder, no_tables, with_node, with_measurement, with_layout, with_candidate, with_calc, recorded, recorded_means};
 
 use crate::records::{CalcRecord, CandidateRecord, LayoutRecord, MeasurementRecord, NodeRecord};
 use geometry::Size;
 use std::alloc::{AllocFailed, Global};
+use std::marker::Model;
 use style::style::Style;
-use tables::faults::{no_answer, unknown_node};
-use tables::keyed::find;
-use tables::nodes::{NodeTable, OfNode};
-use tree::fault::HostFault;
+use tables::keyed::{Keyed, find};
+use tables::nodes::NodeTable;
+use tree::fault::{HostFault, HostReason};
 use tree::layout::{Layout, LayoutOutput, OofCandidate};
 use tree::question::Question;
 use tree::traits::{LayoutGridContainer, LayoutPartialTree};
@@ -25,11 +26,20 @@ pub struct RecordedHost {
     calcs: Vec<CalcRecord>,
 }
 
+impl Model for RecordedHost {
+    ghost use Rattle.recorded_host.specs.Tables.{Tables};
+
+    ghost Value = { Tables };
+
+    ghost use Rattle.recorded_host.specs.Recorded.{tables_of};
+
+    ghost view = { tables_of };
+}
+
 impl RecordedHost {
     // A host of no nodes and no answers.
     pub fn new(heap: Global) -> RecordedHost
-        ensures tables { tables_of result ≡ no_tables }
-        ensures order { InOrder result }
+        ensures { result ≡ no_tables }
     {
         RecordedHost {
             nodes: NodeTable::new(heap),
@@ -40,9 +50,9 @@ impl RecordedHost {
         }
     }
 
+    // By hand for each kind of record: a trait over the kinds would have to name each kind's table just so.
     pub fn add_node(&mut self, node: NodeRecord) -> Result<(), AllocFailed<NodeRecord>>
-        ensures tables { Added result node (tables_of self.old) (with_node (tables_of self.old) node) (tables_of self.new) }
-        ensures order { InOrder self.new }
+        ensures { Added result node self.old (with_node self.old node) self.new }
     {
         self.nodes.add(node)
     }
@@ -51,15 +61,13 @@ impl RecordedHost {
         &mut self,
         measurement: MeasurementRecord,
     ) -> Result<(), AllocFailed<MeasurementRecord>>
-        ensures tables { Added result measurement (tables_of self.old) (with_measurement (tables_of self.old) measurement) (tables_of self.new) }
-        ensures order { InOrder self.new }
+        ensures { Added result measurement self.old (with_measurement self.old measurement) self.new }
     {
         self.measurements.push(measurement)
     }
 
     pub fn add_layout(&mut self, layout: LayoutRecord) -> Result<(), AllocFailed<LayoutRecord>>
-        ensures tables { Added result layout (tables_of self.old) (with_layout (tables_of self.old) layout) (tables_of self.new) }
-        ensures order { InOrder self.new }
+        ensures { Added result layout self.old (with_layout self.old layout) self.new }
     {
         self.layouts.push(layout)
     }
@@ -68,49 +76,46 @@ impl RecordedHost {
         &mut self,
         candidate: CandidateRecord,
     ) -> Result<(), AllocFailed<CandidateRecord>>
-        ensures tables { Added result candidate (tables_of self.old) (with_candidate (tables_of self.old) candidate) (tables_of self.new) }
-        ensures order { InOrder self.new }
+        ensures { Added result candidate self.old (with_candidate self.old candidate) self.new }
     {
         self.candidates.push(candidate)
     }
 
     pub fn add_calc(&mut self, calc: CalcRecord) -> Result<(), AllocFailed<CalcRecord>>
-        ensures tables { Added result calc (tables_of self.old) (with_calc (tables_of self.old) calc) (tables_of self.new) }
-        ensures order { InOrder self.new }
+        ensures { Added result calc self.old (with_calc self.old calc) self.new }
     {
         self.calcs.push(calc)
     }
 
-    // The node that is asked about is one of the host's.
-    fn known(&self, question: Question) -> Result<(), HostFault>
-        ensures { result ≡ answers (recorded_means (tables_of self.now)) question.node (Some question) (Some tt) }
+    // The first record for the key, where the node that is asked about is one of the host's.
+    fn answer<K, R: Keyed<K> + Copy>(
+        &self,
+        question: Question,
+        records: &[R],
+        key: &K,
+    ) -> Result<R, HostFault>
+        ensures { result ≡ answers (recorded_means self.now) question.node (Some question) (find (λ r. R.Keyed.fits r key.now) records.now) }
     {
         self.nodes.record(question.node, Some(question))?;
-        Ok(())
+        find(records, key).ok_or(HostReason::NoAnswer.about(question.node, Some(question)))
     }
 }
 
 impl LayoutPartialTree for RecordedHost {
-    ghost meaning = { λ h. recorded (tables_of h) };
+    ghost meaning = { recorded };
 
     ghost ordered = { InOrder };
 
     ghost tallied = { λ _. None };
 
     fn measure(&mut self, question: Question) -> Result<Size<f32>, HostFault> {
-        self.known(question)?;
-        match find(&self.measurements, &question) {
-            Some(found) => Ok(found.size),
-            None => Err(no_answer(question.node, Some(question))),
-        }
+        self.answer(question, &self.measurements, &question)
+            .map(|found| found.size)
     }
 
     fn perform_layout(&mut self, question: Question) -> Result<LayoutOutput, HostFault> {
-        self.known(question)?;
-        match find(&self.layouts, &question) {
-            Some(found) => Ok(found.output),
-            None => Err(no_answer(question.node, Some(question))),
-        }
+        self.answer(question, &self.layouts, &question)
+            .map(|found| found.output)
     }
 
     fn fetch_candidate(
@@ -118,18 +123,12 @@ impl LayoutPartialTree for RecordedHost {
         question: Question,
         index: u32,
     ) -> Result<OofCandidate, HostFault> {
-        self.known(question)?;
-        match find(&self.candidates, &(question, index)) {
-            Some(found) => Ok(found.candidate),
-            None => Err(no_answer(question.node, Some(question))),
-        }
+        self.answer(question, &self.candidates, &(question, index))
+            .map(|found| found.candidate)
     }
 
     fn calc(&self, handle: u32, basis: f32) -> f32 {
-        match find(&self.calcs, &(handle, basis)) {
-            Some(found) => found.number,
-            None => 0.0,
-        }
+        find(&self.calcs, &(handle, basis)).map_or(0.0, |found| found.number)
     }
 
     fn store(&mut self, node: u64, layout: &Layout) -> Result<(), HostFault> {
@@ -144,9 +143,6 @@ impl LayoutPartialTree for RecordedHost {
 impl LayoutGridContainer for RecordedHost {
     fn style(&self, node: u64) -> Result<Style, HostFault> {
         let found = self.nodes.record(node, None)?;
-        match found.style {
-            Some(style) => Ok(style),
-            None => Err(unknown_node(node, None)),
-        }
+        found.style.ok_or(HostReason::UnknownNode.about(node, None))
     }
 }

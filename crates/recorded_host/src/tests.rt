@@ -15,10 +15,7 @@ fn question(node: u64) -> Question {
             width: Some(20.0),
             height: None,
         },
-        parent_size: Size {
-            width: None,
-            height: None,
-        },
+        parent_size: Size::NONE,
         available_space: Size {
             width: AvailableSpace::MaxContent,
             height: AvailableSpace::MaxContent,

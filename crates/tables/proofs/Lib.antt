@@ -1,1 +1,2 @@
+pub mod Meant
 mod Stored

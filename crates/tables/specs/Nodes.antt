@@ -1,13 +1,9 @@
 -- What a table of nodes says about a node: its first record, and the layout last stored for it.
-use Rattle.std.specs.Prelude.{ℕ, cond, List, is_some, Some, None, vec_items, Option, ◌==◌, nat_eq}
+use Rattle.std.specs.Prelude.{ℕ, cond, List, is_some, Some, None, Option, ◌==◌, nat_eq}
 use Rattle.std.specs.List.{find}
 use Rattle.std.specs.Option.{option_map, option_flatten}
 use Rattle.tree.specs.declared.layout.Layout.{Layout}
 use Rattle.tables.specs.declared.nodes.Slot.{Slot}
-use Rattle.tables.specs.declared.nodes.NodeTable.{NodeTable}
-
-abbrev pub slots_of : {R : Type 0} → NodeTable R → List (Slot R)
-slots_of t = vec_items t.slots
 
 -- a record with nothing stored
 abbrev pub new_slot : {R : Type 0} → R → Slot R

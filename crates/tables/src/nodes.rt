@@ -3,10 +3,11 @@ ghost use Rattle.std.specs.Prelude.{◌≡◌, ℕ, [], ◌∷◌, ◌++◌, is_
 ghost use Rattle.std.specs.Option.{ok_or};
 ghost use Rattle.tree.specs.Faults.{unknown_node, no_answer};
 ghost use Rattle.tables.specs.Added.{Added};
-ghost use Rattle.tables.specs.Nodes.{slots_of, new_slot, slot_at, held_at, layout_at, layouts_with};
+ghost use Rattle.tables.specs.Nodes.{new_slot, slot_at, held_at, layout_at, layouts_with};
 
 use crate::keyed::{Keyed, find, first_place};
 use std::alloc::{AllocFailed, Global};
+use std::marker::Model;
 use tree::fault::{HostFault, HostReason};
 use tree::layout::Layout;
 use tree::question::Question;
@@ -34,14 +35,24 @@ impl<R: OfNode> Keyed<u64> for Slot<R> {
     }
 }
 
+// No map by node: records stay in the order in which they were added, and the first of a node counts.
 #[derive(Drop)]
 pub struct NodeTable<R> {
     slots: Vec<Slot<R>>,
 }
 
+impl<R> Model for NodeTable<R> {
+    ghost use Rattle.std.specs.Prelude.{List};
+    ghost use Rattle.tables.specs.declared.nodes.Slot.{Slot};
+
+    ghost Value = { List (Slot R) };
+
+    ghost view = { λ table. table.slots.items };
+}
+
 impl<R> NodeTable<R> {
     pub fn new(heap: Global) -> NodeTable<R>
-        ensures { slots_of result ≡ [] }
+        ensures { result ≡ [] }
     {
         NodeTable {
             slots: Vec::new(heap),
@@ -50,7 +61,7 @@ impl<R> NodeTable<R> {
 
     // One more record, with nothing stored; without the memory for it, it is given back.
     pub fn add(&mut self, held: R) -> Result<(), AllocFailed<R>>
-        ensures { Added result held (slots_of self.old) (slots_of self.old ++ new_slot held ∷ []) (slots_of self.new) }
+        ensures { Added result held self.old (self.old ++ new_slot held ∷ []) self.new }
     {
         self.slots
             .push(Slot { held, layout: None })
@@ -62,36 +73,35 @@ impl<R> NodeTable<R> {
 
 impl<R: OfNode + Copy> NodeTable<R> {
     fn slot(&self, node: u64, question: Option<Question>) -> Result<Slot<R>, HostFault>
-        ensures { result ≡ ok_or (slot_at R.OfNode.names (slots_of self.now) node) (unknown_node node question) }
+        ensures { result ≡ ok_or (slot_at R.OfNode.names self.now node) (unknown_node node question) }
     {
         find(&self.slots, &node).ok_or(HostReason::UnknownNode.about(node, question))
     }
 
     // The first record of a node.
     pub fn record(&self, node: u64, question: Option<Question>) -> Result<R, HostFault>
-        ensures { result ≡ ok_or (held_at R.OfNode.names (slots_of self.now) node) (unknown_node node question) }
+        ensures { result ≡ ok_or (held_at R.OfNode.names self.now node) (unknown_node node question) }
     {
         self.slot(node, question).map(|slot| slot.held)
     }
 
     // The layout goes to the node's first record, in place of the one before.
     pub fn store(&mut self, node: u64, layout: &Layout) -> Result<(), HostFault>
-        ensures answer { result ≡ (if is_some (held_at R.OfNode.names (slots_of self.old) node) then Ok tt else Err (unknown_node node None)) }
-        ensures records { held_at R.OfNode.names (slots_of self.new) ≡ held_at R.OfNode.names (slots_of self.old) }
-        ensures layouts { layout_at R.OfNode.names (slots_of self.new) ≡ layouts_with R.OfNode.names (slots_of self.old) node layout.now }
+        ensures answer { result ≡ (if is_some (held_at R.OfNode.names self.old node) then Ok tt else Err (unknown_node node None)) }
+        ensures records { held_at R.OfNode.names self.new ≡ held_at R.OfNode.names self.old }
+        ensures layouts { layout_at R.OfNode.names self.new ≡ layouts_with R.OfNode.names self.old node layout.now }
     {
-        let place = first_place(&self.slots, &node)
-            .ok_or(HostReason::UnknownNode.about(node, None))?;
+        let unknown = HostReason::UnknownNode.about(node, None);
+        let place = first_place(&self.slots, &node).ok_or(unknown)?;
         self.slots[place].layout = Some(*layout);
         Ok(())
     }
 
     // The layout last stored for a node.
     pub fn stored(&self, node: u64) -> Result<Layout, HostFault>
-        ensures { result ≡ (if is_some (held_at R.OfNode.names (slots_of self.now) node) then ok_or (layout_at R.OfNode.names (slots_of self.now) node) (no_answer node None) else Err (unknown_node node None)) }
+        ensures { result ≡ (if is_some (held_at R.OfNode.names self.now node) then ok_or (layout_at R.OfNode.names self.now node) (no_answer node None) else Err (unknown_node node None)) }
     {
-        self.slot(node, None)?
-            .layout
-            .ok_or(HostReason::NoAnswer.about(node, None))
+        let slot = self.slot(node, None)?;
+        slot.layout.ok_or(HostReason::NoAnswer.about(node, None))
     }
 }

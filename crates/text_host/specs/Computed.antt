@@ -4,24 +4,20 @@ use Rattle.std.specs.Float.{binary32}
 use Rattle.std.specs.Option.{option_map, option_flatten}
 use Rattle.geometry.specs.declared.Rect.{Rect}
 use Rattle.geometry.specs.declared.Size.{Size}
-use Rattle.tables.specs.Nodes.{slots_of, new_slot, held_at, layout_at}
+use Rattle.tables.specs.Nodes.{new_slot, held_at, layout_at}
 use Rattle.tables.specs.declared.nodes.Slot.{Slot}
 use Rattle.tree.specs.Meaning.{Means, Meaning}
 use Rattle.tree.specs.declared.layout.LayoutOutput.{LayoutOutput}
 use Rattle.text_host.specs.Texts.{text_size}
 use Rattle.text_host.specs.declared.text.TextRecord.{TextRecord}
-use Rattle.text_host.specs.declared.host.TextHost.{TextHost}
 
 -- each text has a place for the layout last stored for its node
-abbrev pub texts_of : TextHost → List (Slot TextRecord)
-texts_of h = slots_of h.texts
-
 abbrev pub with_text : List (Slot TextRecord) → TextRecord → List (Slot TextRecord)
 with_text texts t = texts ++ new_slot t ∷ []
 
 -- nothing is asked of the texts: every text host is in order
-abbrev pub InOrder : TextHost → Type 0
-InOrder h = Unit {0}
+abbrev pub InOrder : List (Slot TextRecord) → Type 0
+InOrder texts = Unit {0}
 
 -- a node's first text counts
 abbrev pub text_at : List (Slot TextRecord) → ℕ → Option TextRecord
@@ -34,15 +30,19 @@ no_rect = record { left = from_bits binary32 0; right = from_bits binary32 0; to
 abbrev pub output_of : Size Float → LayoutOutput
 output_of s = record { size = s; scrollable_overflow_rect = no_rect; first_baseline = None; candidate_count = 0 }
 
-abbrev pub computed_means : List (Slot TextRecord) → Means
-computed_means texts = record {
-  has = λ n. is_some (text_at texts n);
-  styles = λ n. option_map (λ t. t.style) (text_at texts n);
+-- what the texts mean, by the text of each node
+abbrev pub computed_by : (ℕ → Option TextRecord) → Means
+computed_by text = record {
+  has = λ n. is_some (text n);
+  styles = λ n. option_map (λ t. t.style) (text n);
   calculates = λ handle basis. from_bits binary32 0;
-  sizes = λ q. option_flatten (option_map (λ t. text_size t q) (text_at texts q.node));
-  outputs = λ q. option_map output_of (option_flatten (option_map (λ t. text_size t q) (text_at texts q.node)));
+  sizes = λ q. option_flatten (option_map (λ t. text_size t q) (text q.node));
+  outputs = λ q. option_map output_of (option_flatten (option_map (λ t. text_size t q) (text q.node)));
   candidates = λ q i. None;
 }
+
+abbrev pub computed_means : List (Slot TextRecord) → Means
+computed_means texts = computed_by (text_at texts)
 
 abbrev pub computed : List (Slot TextRecord) → Meaning
 computed texts = record { means = computed_means texts; stored = layout_at (λ t. t.node) texts }

@@ -1,8 +1,9 @@
 -- How a text breaks into lines: its columns, its lines, and the width and height that they take.
-use Rattle.std.specs.Prelude.{ℕ, ◌+◌, ◌*◌, ◌/◌, ◌%◌, min, max, Bool, cond, ◌&&◌, pos, Some, None, Option, ◌==◌, from_bits, nat_le, Float}
+use Rattle.std.specs.Prelude.{ℕ, ◌*◌, min, max, Bool, cond, ◌&&◌, pos, Some, None, Option, ◌==◌, from_bits, nat_le, Float}
 use Rattle.std.specs.Float.{binary32}
 use Rattle.std.specs.Float.Ieee.{div, of_int, to_unsigned}
 use Rattle.std.specs.Float.Ieee.Scale.{finite}
+use Rattle.std.specs.Int.{div_ceil}
 use Rattle.std.specs.Option.{unwrap_or}
 use Rattle.geometry.specs.Shapes.{zip_size}
 use Rattle.geometry.specs.declared.Size.{Size}
@@ -39,7 +40,7 @@ columns_for t None MaxContent = t.letters
 
 -- the letters over the columns, rounded up
 abbrev pub lines_in : ℕ → ℕ → ℕ
-lines_in letters columns = letters / columns + min 1 (letters % columns)
+lines_in letters columns = div_ceil letters columns
 
 abbrev pub no_size : Size Float
 no_size = record { width = from_bits binary32 0; height = from_bits binary32 0 }

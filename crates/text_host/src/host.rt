@@ -2,15 +2,15 @@
 ghost use Rattle.std.specs.Prelude.{◌≡◌, [], None};
 ghost use Rattle.tables.specs.Added.{Added};
 ghost use Rattle.tree.specs.Meaning.{measures as measured};
-ghost use Rattle.text_host.specs.Computed.{InOrder, texts_of, with_text, computed, computed_means};
+ghost use Rattle.text_host.specs.Computed.{InOrder, with_text, computed, computed_means};
 
 use crate::text::TextRecord;
 use geometry::{Rect, Size};
 use std::alloc::{AllocFailed, Global};
+use std::marker::Model;
 use style::style::Style;
-use tables::faults::no_answer;
 use tables::nodes::NodeTable;
-use tree::fault::HostFault;
+use tree::fault::{HostFault, HostReason};
 use tree::layout::{Layout, LayoutOutput, OofCandidate};
 use tree::question::Question;
 use tree::traits::{LayoutGridContainer, LayoutPartialTree};
@@ -20,11 +20,20 @@ pub struct TextHost {
     texts: NodeTable<TextRecord>,
 }
 
+impl Model for TextHost {
+    ghost use Rattle.std.specs.Prelude.{List};
+    ghost use Rattle.tables.specs.declared.nodes.Slot.{Slot};
+    ghost use Rattle.text_host.specs.declared.text.TextRecord.{TextRecord};
+
+    ghost Value = { List (Slot TextRecord) };
+
+    ghost view = { λ host. host.texts };
+}
+
 impl TextHost {
     // A host of no texts.
     pub fn new(heap: Global) -> TextHost
-        ensures texts { texts_of result ≡ [] }
-        ensures order { InOrder result }
+        ensures { result ≡ [] }
     {
         TextHost {
             texts: NodeTable::new(heap),
@@ -32,25 +41,22 @@ impl TextHost {
     }
 
     pub fn add_text(&mut self, text: TextRecord) -> Result<(), AllocFailed<TextRecord>>
-        ensures texts { Added result text (texts_of self.old) (with_text (texts_of self.old) text) (texts_of self.new) }
-        ensures order { InOrder self.new }
+        ensures { Added result text self.old (with_text self.old text) self.new }
     {
         self.texts.add(text)
     }
 
     fn size(&self, question: Question) -> Result<Size<f32>, HostFault>
-        ensures { result ≡ measured (computed_means (texts_of self.now)) question }
+        ensures { result ≡ measured (computed_means self.now) question }
     {
         let text = self.texts.record(question.node, Some(question))?;
-        match text.size(question) {
-            Some(size) => Ok(size),
-            None => Err(no_answer(question.node, Some(question))),
-        }
+        text.size(question)
+            .ok_or(HostReason::NoAnswer.about(question.node, Some(question)))
     }
 }
 
 impl LayoutPartialTree for TextHost {
-    ghost meaning = { λ h. computed (texts_of h) };
+    ghost meaning = { computed };
 
     ghost ordered = { InOrder };
 
@@ -76,7 +82,7 @@ impl LayoutPartialTree for TextHost {
         _index: u32,
     ) -> Result<OofCandidate, HostFault> {
         self.texts.record(question.node, Some(question))?;
-        Err(no_answer(question.node, Some(question)))
+        Err(HostReason::NoAnswer.about(question.node, Some(question)))
     }
 
     fn calc(&self, _handle: u32, _basis: f32) -> f32 {
@@ -94,7 +100,6 @@ impl LayoutPartialTree for TextHost {
 
 impl LayoutGridContainer for TextHost {
     fn style(&self, node: u64) -> Result<Style, HostFault> {
-        let text = self.texts.record(node, None)?;
-        Ok(text.style)
+        self.texts.record(node, None).map(|text| text.style)
     }
 }

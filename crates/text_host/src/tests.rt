@@ -22,14 +22,8 @@ fn ten_letters_in_a_width_of_fifty(rt: HostRuntime) -> Result<(), Fail> {
     })?;
     let answer = host.measure(Question {
         node: 1,
-        known_dimensions: Size {
-            width: None,
-            height: None,
-        },
-        parent_size: Size {
-            width: None,
-            height: None,
-        },
+        known_dimensions: Size::NONE,
+        parent_size: Size::NONE,
         available_space: Size {
             width: AvailableSpace::Definite(50.0),
             height: AvailableSpace::MaxContent,

@@ -31,12 +31,6 @@ impl OfNode for TextRecord {
     }
 }
 
-fn is_between(low: u32, high: u32, n: u32) -> bool
-    ensures { result ≡ between low high n }
-{
-    low <= n && n <= high
-}
-
 // So many of so many pixels each.
 fn pixels(count: u32, each: u32) -> f32
     ensures { result ≡ float_of (count * each) }
@@ -45,6 +39,7 @@ fn pixels(count: u32, each: u32) -> f32
 }
 
 // The lines that so many letters take, so many in a line.
+#[tactic(auto, using(crate::proofs::Lines::fewest))]
 fn lines(letters: u32, columns: u32) -> u32
     requires { 0 < columns }
     ensures value { result ≡ lines_in letters columns }
@@ -58,10 +53,10 @@ impl TextRecord {
     pub fn is_in_bounds(&self) -> bool
         ensures { result ≡ in_bounds self.now }
     {
-        is_between(0, 8192, self.letters)
-            && is_between(self.letters.min(1), self.letters, self.longest_word)
-            && is_between(1, 128, self.cell_width)
-            && is_between(1, 128, self.line_height)
+        (0..=8192).contains(&self.letters)
+            && (self.letters.min(1)..=self.letters).contains(&self.longest_word)
+            && (1..=128).contains(&self.cell_width)
+            && (1..=128).contains(&self.line_height)
     }
 
     // The whole cells in a width, but no fewer than the longest word has, and no more than all letters.
@@ -79,8 +74,7 @@ impl TextRecord {
         ensures held { in_bounds self.now ≡ true → between self.now.longest_word self.now.letters result ≡ true }
     {
         match (known, available) {
-            (Some(width), _) => self.columns_in(width),
-            (None, AvailableSpace::Definite(width)) => self.columns_in(width),
+            (Some(width), _) | (None, AvailableSpace::Definite(width)) => self.columns_in(width),
             (None, AvailableSpace::MinContent) => self.longest_word,
             (None, AvailableSpace::MaxContent) => self.letters,
         }
@@ -92,23 +86,24 @@ impl TextRecord {
         ensures { result ≡ size_in self.now columns }
     {
         if self.letters == 0 {
-            return Size::ZERO;
-        }
-        Size {
-            width: pixels(columns, self.cell_width),
-            height: pixels(lines(self.letters, columns), self.line_height),
+            Size::ZERO
+        } else {
+            Size {
+                width: pixels(columns, self.cell_width),
+                height: pixels(lines(self.letters, columns), self.line_height),
+            }
         }
     }
 
     // The size that answers a question, where there is an answer.
+    #[tactic(auto, unfolding(crate::specs::Texts::text_size))]
     pub fn size(&self, question: Question) -> Option<Size<f32>>
         ensures { result ≡ text_size self.now question }
     {
-        if !self.is_in_bounds() || !question.is_finite() {
-            return None;
-        }
-        let known = question.known_dimensions;
-        let columns = self.columns(known.width, question.available_space.width);
-        Some(known.unwrap_or(self.size_in(columns)))
+        (self.is_in_bounds() && question.is_finite()).then(|| {
+            let known = question.known_dimensions;
+            let columns = self.columns(known.width, question.available_space.width);
+            known.unwrap_or(self.size_in(columns))
+        })
     }
 }

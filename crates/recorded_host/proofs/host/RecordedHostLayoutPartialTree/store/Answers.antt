@@ -1,26 +1,8 @@
-use Rattle.std.proofs.Common.{is_some, rules}
-use Rattle.std.specs.Option.{option_map, option_flatten}
-use Rattle.recorded_host.specs.Recorded.{tables_of, recorded_means}
+use Rattle.std.proofs.Common.{refl}
+use Rattle.tables.proofs.Meant.{meant_stored}
+use Rattle.recorded_host.specs.Recorded.{tables_of, recorded_by}
 use Rattle.recorded_host.proofs.host.RecordedHostLayoutPartialTree.store.Goals as goal
 
 -- no record changes, so what the host means beside the stored layouts stays
-pub returns : goal.returns
-returns c =
-    let after = c.store.ensures in
-    let m = recorded_means (tables_of c.args.self.now) in
-    record {
-      answer = after.answer;
-      order = tt;
-      change = λ i. record {
-        means = record {
-          has = λ n. is_some (after.records i n);
-          styles = λ n. option_flatten (option_map (λ r. r.style) (after.records i n));
-          calculates = m.calculates;
-          sizes = m.sizes;
-          outputs = m.outputs;
-          candidates = m.candidates;
-        };
-        stored = after.layouts i;
-      };
-      counts = search rules;
-    }
+pub returns-clause-change : goal.returns-clause-change
+returns-clause-change c = rw (← c.self.view_is) (meant_stored (λ r. r.node) (recorded_by (tables_of c.self.inside)) (λ _ _. refl) c.self.inside.nodes c.store.new.self c.args.node c.args.layout.now c.store.ensures.records c.store.ensures.layouts)
