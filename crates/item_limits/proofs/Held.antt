@@ -1,12 +1,12 @@
 -- A length that is clamped is held in its limits, and limits that a style makes are in order.
-use Rattle.std.proofs.Common.{◌≡◌, Bool, true, false, cond, not, ◌||◌, T, Some, None, Option, sym, refl, ap, ◌∙◌, subst}
+use Rattle.std.proofs.Common.{◌≡◌, Bool, true, false, cond, not, ◌||◌, T, Some, None, Option, unwrap_or, sym, refl, ap, ◌∙◌, subst}
 use lib.Ieee.{Float, binary32, le, is_nan, add}
 use Rattle.std.specs.Float.{float_max, float_min}
 use Rattle.std.specs.Float.Order.{le_refl, le_trans, le_right}
 use Rattle.number.proofs.Order.{most_least}
 use Rattle.item_limits.specs.declared.limits.SideLength.{SideLength}
 use Rattle.item_limits.specs.declared.limits.Limits.{Limits}
-use Rattle.item_limits.specs.Limits.{at_least, under, minimum, maximum, limits_of, clamped}
+use Rattle.item_limits.specs.Limits.{at_least, under, border_length, limit, least, limits_of, clamped}
 use Rattle.item_limits.specs.LimitLaws.{Number, Below, Ordered, Held, Fits}
 
 -- ---- the larger and the smaller of two, where only the second need be no NaN
@@ -28,21 +28,22 @@ below_second x y n = by_test (λ (z : Float). T (le z y)) (le x y) (is_nan y) x 
 
 -- ---- limits that a style makes
 
-minimum_above : (e a : Float) (o : Option Float) → Number e → T (le e (minimum e a o).border)
-minimum_above e a (Some v) n = above_second (add binary32 v a) e n
-minimum_above e a None n = le_refl e n
+-- what stands for a limit, where b stands for one that is not there
+limit_above : (b : SideLength) (a : Float) (o : Option Float) → Number b.border → T (le b.border (unwrap_or (limit b a o) b).border)
+limit_above b a (Some v) n = above_second (add binary32 v a) b.border n
+limit_above b a None n = le_refl b.border n
 
-maximum_above : (m : SideLength) (a : Float) (o : Option Float) → Number m.border → Below (maximum m a o) m.border
-maximum_above m a (Some v) n = above_second (add binary32 v a) m.border n
-maximum_above m a None n = tt
+limit_below : (b : SideLength) (a : Float) (o : Option Float) → Number b.border → Below (limit b a o) b.border
+limit_below b a (Some v) n = above_second (add binary32 v a) b.border n
+limit_below b a None n = tt
 
-pub limits_ordered : (min max : Option Float) (e a : Float) → Number e → Ordered e (limits_of min max e a)
-limits_ordered min max e a n =
-    let floor : T (le e (minimum e a min).border) = minimum_above e a min n in
-    record {
-      minimum_holds_padding_and_border = floor;
-      maximum_holds_minimum = maximum_above (minimum e a min) a max (le_right e (minimum e a min).border floor);
-    }
+pub limits_ordered : (min max : Option Float) (e a : Float) (l : Limits) → l ≡ limits_of min max e a → Number e → Ordered e l
+limits_ordered min max e a l q n =
+    let least_above : T (le e (least (limits_of min max e a)).border) = limit_above (border_length a e) a min n in
+    subst (Ordered e) (sym q) (record {
+      minimum_holds_padding_and_border = least_above;
+      maximum_holds_minimum = limit_below (least (limits_of min max e a)) a max (le_right e (least (limits_of min max e a)).border least_above);
+    })
 
 -- ---- a length that is clamped
 
@@ -59,12 +60,12 @@ stays None m s p q = chosen (le m.border s.border) (is_nan m.border) s.border m.
 
 pub clamped_held : (l : Limits) (s : SideLength) → Held l (clamped l s).border
 clamped_held l s = record {
-  at_least_minimum = above_second (under l.max s).border l.min.border;
+  at_least_minimum = above_second (under l.max s).border (least l).border;
   at_least_padding_and_border = λ min max e a q n.
-      let floor : T (le e l.min.border) = subst (λ (k : Limits). T (le e k.min.border)) (sym q) (minimum_above e a min n) in
-      le_trans e l.min.border (clamped l s).border floor (above_second (under l.max s).border l.min.border (le_right e l.min.border floor));
-  at_most_maximum = below_maximum l.max l.min s;
+      let above : T (le e (least l).border) = (limits_ordered min max e a l q n).minimum_holds_padding_and_border in
+      le_trans e (least l).border (clamped l s).border above (above_second (under l.max s).border (least l).border (le_right e (least l).border above));
+  at_most_maximum = below_maximum l.max (least l) s;
 }
 
-pub clamped_fits : (l : Limits) (s : SideLength) → Fits l s (clamped l s)
-clamped_fits l s = record { held = clamped_held l s; unchanged = stays l.max l.min s }
+pub clamped_fits : (l : Limits) (s r : SideLength) → r ≡ clamped l s → Fits l s r
+clamped_fits l s r e = subst (Fits l s) (sym e) (record { held = clamped_held l s; unchanged = stays l.max (least l) s })

@@ -56,30 +56,18 @@ impl AspectRatio {
 
     // A box of which neither side is definite, bounded side by side by the boxes of its limits.
     // The limits of the height first, those of the width last. A minimum height counts if the style has one.
-    pub fn limited_box(self, natural: Size<SideLength>) -> Size<SideLength>
-        ensures { result ≡ limited_box self natural }
-    {
-        let low = match self.limits.height.max {
-            Some(max) => box_at_most(natural, self.box_of_height(max)),
-            None => natural,
-        };
-        let high = if self.limits.height.has_min {
-            box_at_least(low, self.box_of_height(self.limits.height.min))
-        } else {
-            low
-        };
-        let narrow = match self.limits.width.max {
-            Some(max) => box_at_most(high, self.box_of_width(max)),
-            None => high,
-        };
-        box_at_least(narrow, self.box_of_width(self.limits.width.min))
-    }
-
-    // `limited_box`, with what it promises.
     pub fn limited(self, natural: Size<SideLength>) -> Size<SideLength>
         ensures sides { result ≡ limited_box self natural }
         ensures law { Held self.limits.width result.width.border }
     {
-        self.limited_box(natural)
+        let Size { width, height } = self.limits;
+        let low = height.max.map_or(natural, |max| box_at_most(natural, self.box_of_height(max)));
+        let high = height
+            .min
+            .map_or(low, |min| box_at_least(low, self.box_of_height(min)));
+        let narrow = width
+            .max
+            .map_or(high, |max| box_at_most(high, self.box_of_width(max)));
+        box_at_least(narrow, self.box_of_width(width.least()))
     }
 }
