@@ -100,6 +100,20 @@ impl Limits {
         }
     }
 
+    // A length of the box that `box-sizing` names.
+    pub fn named_length(self, length: f32) -> SideLength
+        ensures { result ≡ named_length self.adjustment length }
+    {
+        SideLength::of_named(length, self.adjustment)
+    }
+
+    // A length of the border box.
+    pub fn border_length(self, length: f32) -> SideLength
+        ensures { result ≡ border_length self.adjustment length }
+    {
+        SideLength::of_border(length, self.adjustment)
+    }
+
     // What the minimum comes to.
     pub fn least(self) -> SideLength
         ensures { result ≡ least self }
@@ -112,8 +126,7 @@ impl Limits {
         ensures length { result ≡ clamped self length }
         ensures law { Fits self length result }
     {
-        self.max
-            .map_or(length, |max| length.at_most(max))
-            .at_least(self.least())
+        let capped = self.max.map_or(length, |max| length.at_most(max));
+        capped.at_least(self.least())
     }
 }

@@ -40,7 +40,7 @@ impl AspectRatio {
     {
         Size {
             width,
-            height: SideLength::of_named(width.named / self.ratio, self.limits.height.adjustment),
+            height: self.limits.height.named_length(width.named / self.ratio),
         }
     }
 
@@ -49,7 +49,7 @@ impl AspectRatio {
         ensures { result ≡ box_of_height self height }
     {
         Size {
-            width: SideLength::of_named(height.named * self.ratio, self.limits.width.adjustment),
+            width: self.limits.width.named_length(height.named * self.ratio),
             height,
         }
     }
