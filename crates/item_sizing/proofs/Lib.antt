@@ -1,1 +1,3 @@
 pub mod Raises
+pub mod UsedLaws
+pub mod Finals
