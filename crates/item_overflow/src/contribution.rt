@@ -4,7 +4,7 @@ ghost use Rattle.item_overflow.specs.Laws.{Contributes};
 ghost use Rattle.item_overflow.specs.ScrollableOverflow as area;
 
 use crate::boxes::{ContainerBox, ItemBox};
-use geometry::{Line, Point, Rect};
+use geometry::{AbsoluteAxis, Line, Point, Rect};
 use number::{f32_max, f32_min};
 use style::alignment::Direction;
 use style::modes::Overflow;
@@ -82,7 +82,8 @@ impl ItemBox {
             Direction::Rtl => self.border.right,
         };
         let content = shifted(
-            self.scrollable_overflow_rect.horizontal_components(),
+            self.scrollable_overflow_rect
+                .axis_components(AbsoluteAxis::Horizontal),
             inline_start,
         );
         match (self.direction, container.direction) {
@@ -97,7 +98,8 @@ impl ItemBox {
         ensures { result ≡ area.block_overflow self }
     {
         shifted(
-            self.scrollable_overflow_rect.vertical_components(),
+            self.scrollable_overflow_rect
+                .axis_components(AbsoluteAxis::Vertical),
             self.border.top,
         )
     }
