@@ -1,6 +1,6 @@
 // Boxes whose sides stand in a preferred aspect ratio, and the limits that one side transfers to the other, per CSS Sizing 4.
 ghost use Rattle.std.specs.Prelude.{◌≡◌};
-ghost use Rattle.item_limits.specs.RatioBoxes.{box_of_width, box_of_height, box_at_most, box_at_least, limited_box};
+ghost use Rattle.item_limits.specs.RatioBoxes.{box_of_width, box_of_height, limited_box};
 ghost use Rattle.item_limits.specs.LimitLaws.{Held};
 
 use crate::limits::{Limits, SideLength};
@@ -11,26 +11,6 @@ use geometry::Size;
 pub struct AspectRatio {
     pub ratio: f32,
     pub limits: Size<Limits>,
-}
-
-// Side by side the smaller.
-pub fn box_at_most(a: Size<SideLength>, b: Size<SideLength>) -> Size<SideLength>
-    ensures { result ≡ box_at_most a b }
-{
-    Size {
-        width: a.width.at_most(b.width),
-        height: a.height.at_most(b.height),
-    }
-}
-
-// Side by side the larger.
-pub fn box_at_least(a: Size<SideLength>, b: Size<SideLength>) -> Size<SideLength>
-    ensures { result ≡ box_at_least a b }
-{
-    Size {
-        width: a.width.at_least(b.width),
-        height: a.height.at_least(b.height),
-    }
 }
 
 impl AspectRatio {
@@ -61,13 +41,15 @@ impl AspectRatio {
         ensures law { Held self.limits.width result.width.border }
     {
         let Size { width, height } = self.limits;
-        let low = height.max.map_or(natural, |max| box_at_most(natural, self.box_of_height(max)));
-        let high = height
-            .min
-            .map_or(low, |min| box_at_least(low, self.box_of_height(min)));
-        let narrow = width
-            .max
-            .map_or(high, |max| box_at_most(high, self.box_of_width(max)));
-        box_at_least(narrow, self.box_of_width(width.least()))
+        let low = height.max.map_or(natural, |max| {
+            natural.zip_map(self.box_of_height(max), SideLength::at_most)
+        });
+        let high = height.min.map_or(low, |min| {
+            low.zip_map(self.box_of_height(min), SideLength::at_least)
+        });
+        let narrow = width.max.map_or(high, |max| {
+            high.zip_map(self.box_of_width(max), SideLength::at_most)
+        });
+        narrow.zip_map(self.box_of_width(width.least()), SideLength::at_least)
     }
 }

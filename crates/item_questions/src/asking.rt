@@ -1,6 +1,6 @@
 // Each question to the host, once: with its zeros unsigned, its answer checked against the limits.
 ghost use Rattle.std.specs.Prelude.{◌≡◌};
-ghost use Rattle.item_questions.specs.Asking.{unsigned_option, unsigned_space, both_sides, unsigned as unsigned_question, taken, Asked};
+ghost use Rattle.item_questions.specs.Asking.{unsigned_option, unsigned_space, unsigned as unsigned_question, taken, Asked};
 ghost use Rattle.item_questions.specs.Asking.{measured, laid_out, fetched, styled};
 
 use crate::fault::ItemFault;
@@ -21,15 +21,6 @@ fn unsigned_option(x: Option<f32>) -> Option<f32>
     x.map(without_zero_sign)
 }
 
-fn unsigned_options(size: Size<Option<f32>>) -> Size<Option<f32>>
-    ensures { result ≡ both_sides unsigned_option size }
-{
-    Size {
-        width: unsigned_option(size.width),
-        height: unsigned_option(size.height),
-    }
-}
-
 fn unsigned_space(space: AvailableSpace) -> AvailableSpace
     ensures { result ≡ unsigned_space space }
 {
@@ -42,17 +33,11 @@ fn unsigned_space(space: AvailableSpace) -> AvailableSpace
 fn unsigned(question: Question) -> Question
     ensures { result ≡ unsigned_question question }
 {
-    let space = question.available_space;
     Question {
-        node: question.node,
-        known_dimensions: unsigned_options(question.known_dimensions),
-        parent_size: unsigned_options(question.parent_size),
-        available_space: Size {
-            width: unsigned_space(space.width),
-            height: unsigned_space(space.height),
-        },
-        sizing_mode: question.sizing_mode,
-        axis: question.axis,
+        known_dimensions: question.known_dimensions.map(unsigned_option),
+        parent_size: question.parent_size.map(unsigned_option),
+        available_space: question.available_space.map(unsigned_space),
+        ..question
     }
 }
 

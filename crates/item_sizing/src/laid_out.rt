@@ -35,10 +35,7 @@ impl SizingItem {
     fn whole_question(self, known: Size<Option<f32>>) -> Question
         ensures { result ≡ whole_question self known }
     {
-        let space = Size {
-            width: AvailableSpace::Definite(self.space.width),
-            height: AvailableSpace::Definite(self.space.height),
-        };
+        let space = self.space.map(AvailableSpace::Definite);
         self.question(known, space, RequestedAxis::Both)
     }
 
@@ -91,11 +88,7 @@ impl SizingItem {
     {
         if self.wants_measuring(known) {
             let measured = measure(host, self.whole_question(known))?;
-            let both = Size {
-                width: Some(measured.width),
-                height: Some(measured.height),
-            };
-            let question = self.whole_question(both);
+            let question = self.whole_question(measured.map(Some));
             let output = perform_layout(host, question)?;
             Ok(LaidOutItem {
                 size: self.answered(measured),

@@ -44,10 +44,7 @@ impl SizingItem {
         Question {
             node: self.node,
             known_dimensions,
-            parent_size: Size {
-                width: Some(self.basis.width),
-                height: Some(self.basis.height),
-            },
+            parent_size: self.basis.map(Some),
             available_space,
             sizing_mode: SizingMode::InherentSize,
             axis,
