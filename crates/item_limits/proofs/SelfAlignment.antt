@@ -1,5 +1,5 @@
 -- An alignment in the words of the container has no self-relative keyword, and is otherwise kept.
-use Rattle.std.proofs.Common.{◌≡◌, Bool, true, false, not, T, refl}
+use Rattle.std.proofs.Common.{◌≡◌, Bool, true, false, not, T, refl, sym, subst}
 use Rattle.style.specs.declared.alignment.AlignItems.{AlignItems}
 use Rattle.style.specs.declared.alignment.AlignItemsKeyword.{AlignItemsKeyword}
 use Rattle.style.specs.declared.alignment.AlignItemsKeyword.TheVariants as item
@@ -33,9 +33,9 @@ kept b item.Center q = refl
 kept b item.Baseline q = refl
 kept b item.Stretch q = refl
 
-pub container_relative : (a : AlignItems) (own container : Direction) (inline : Bool) → ContainerRelative a (self_relative a own container inline)
-container_relative a own container inline = record {
+pub container_relative : (a : AlignItems) (own container : Direction) (inline : Bool) (r : AlignItems) → r ≡ self_relative a own container inline → ContainerRelative a r
+container_relative a own container inline r e = subst (ContainerRelative a) (sym e) (record {
   not_self_relative = resolved (runs_along own container inline) a.keyword;
   keyword_kept = kept (runs_along own container inline) a.keyword;
   overflow_position_kept = refl;
-}
+})

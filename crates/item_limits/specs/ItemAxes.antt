@@ -1,5 +1,5 @@
 -- The space that a side may fill, and what the side is to be.
-use Rattle.std.specs.Prelude.{Bool, cond, ◌&&◌, is_some, Some, None, Option, from_bits, Float}
+use Rattle.std.specs.Prelude.{Bool, cond, ◌&&◌, is_some, Some, Option, from_bits, Float}
 use Rattle.std.specs.Float.Ieee.{sub}
 use Rattle.std.specs.Float.{float_max, binary32}
 use Rattle.std.specs.Option.{unwrap_or, option_map, option_or}
