@@ -7,6 +7,7 @@ use Rattle.tree.specs.Meaning.{Means}
 use Rattle.tree.specs.declared.layout.LayoutOutput.{LayoutOutput}
 use Rattle.item_limits.specs.Limits.{least}
 use Rattle.item_limits.specs.declared.limits.SideLength.{SideLength}
+use Rattle.item_limits.proofs.Held.{above_second}
 use Rattle.item_questions.specs.Asking.{measured, laid_out}
 use Rattle.item_questions.specs.declared.fault.ItemFault.{ItemFault}
 use Rattle.item_sizing.specs.Found.{Found, by_measuring, map_found, then_found}
@@ -15,10 +16,10 @@ use Rattle.item_sizing.specs.LaidOut.{whole_question, max_width, max_height, und
 use Rattle.item_sizing.specs.SizingLaws.{NotBelow, Floor, Sized}
 use Rattle.item_sizing.specs.declared.sizing_item.SizingItem.{SizingItem}
 use Rattle.item_sizing.specs.declared.laid_out.LaidOutItem.{LaidOutItem}
-use Rattle.item_sizing.proofs.UsedLaws.{Takes, Above, Over, Sides, miss, makes_of, always, then_takes, most_above, used_sizes_take}
+use Rattle.item_sizing.proofs.UsedLaws.{Takes, Above, Over, Sides, miss, makes_of, always, then_takes, used_sizes_take}
 
 held_above : (o : Option SideLength) (f g v : Float) → T (le f g) → T (le f (held o g v))
-held_above o f g v h = le_trans f g (held o g v) h (most_above (under_max o v) g (le_right f g h))
+held_above o f g v h = le_trans f g (held o g v) h (above_second (under_max o v) g (le_right f g h))
 
 side_above : (f w : Float) (o : Option Float) → Above f o → T (le f w) → T (le f (unwrap_or o w))
 side_above f w (Some v) p q = p

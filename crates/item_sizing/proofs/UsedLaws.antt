@@ -13,6 +13,7 @@ use Rattle.item_limits.specs.declared.limits.SideLength.{SideLength}
 use Rattle.item_limits.specs.declared.ratio_box.AspectRatio.{AspectRatio}
 use Rattle.item_limits.specs.declared.item_axis.SideSizing.{SideSizing}
 use Rattle.item_limits.specs.declared.item_axis.SideSizing.TheVariants.{Given, Content, Stretched, Filled, Free}
+use Rattle.item_limits.proofs.Held.{above_second}
 use Rattle.item_questions.specs.Asking.{measured}
 use Rattle.item_questions.specs.declared.fault.ItemFault.{ItemFault}
 use Rattle.item_sizing.specs.Found.{Found, known, by_measuring, made_of, map_found, then_by, then_found}
@@ -64,16 +65,8 @@ Above f (Some x) = T (le f x)
 abbrev pub Over : Limits → Option Float → Type 0
 Over l o = (f : Float) → T (le f (least l).border) → Above f o
 
-pub most_above : (x y : Float) → T (not (is_nan y)) → T (le y (float_max x y))
-most_above x y q = go (le y x) (is_nan y) (λ t. t) q
-  where
-    go : (b n : Bool) → (T b → T (le y x)) → T (not n) → T (le y (cond (b || n) x y))
-    go true n k h = k tt
-    go false true k h = absurd h
-    go false false k h = le_refl y q
-
 used_over : (l : Limits) (s : SideLength) → Over l (Some (used_length l s))
-used_over l s f h = le_trans f (least l).border (used_length l s) h (most_above (under l.max s).border (least l).border (le_right f (least l).border h))
+used_over l s f h = le_trans f (least l).border (used_length l s) h (above_second (under l.max s).border (least l).border (le_right f (least l).border h))
 
 used_over_if_any : (l : Limits) (o : Option SideLength) → Over l (option_map (used_length l) o)
 used_over_if_any l None f h = tt
@@ -95,18 +88,10 @@ abbrev pub miss : SizingItem → Size (Option Float) → ℕ
 miss i z = cond (wants_measuring i z) 1 0
 
 miss_count : (o : Bool) (a b : Option Float) → count a + count b + cond (o && not (is_some a && is_some b)) 1 0 ≤ 2
-miss_count false (Some a) (Some b) = lit≤ tt
-miss_count false (Some a) None = lit≤ tt
-miss_count false None (Some b) = lit≤ tt
-miss_count false None None = lit≤ tt
-miss_count true (Some a) (Some b) = lit≤ tt
-miss_count true (Some a) None = lit≤ tt
-miss_count true None (Some b) = lit≤ tt
-miss_count true None None = lit≤ tt
+miss_count o a b = grind arith
 
 miss_one : (b : Bool) → cond b 1 0 ≤ 1
-miss_one true = lit≤ tt
-miss_one false = lit≤ tt
+miss_one b = grind arith
 
 -- a side took no more measurements than it accounts for, and is over its minimum
 pub record Side (l : Limits) (k : ℕ) (o : Option Float) : Type 0 where
