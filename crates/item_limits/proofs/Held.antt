@@ -1,5 +1,5 @@
 -- A length that is clamped is held in its limits, and limits that a style makes are in order.
-use Rattle.std.proofs.Common.{◌≡◌, Bool, true, false, cond, not, ◌||◌, T, Some, None, Option, unwrap_or, sym, refl, ap, ◌∙◌, subst}
+use Rattle.std.proofs.Common.{◌≡◌, Bool, true, false, cond, not, ◌||◌, T, Some, None, Option, unwrap_or, sym, subst, arith}
 use lib.Ieee.{Float, binary32, le, is_nan, add}
 use Rattle.std.specs.Float.{float_max, float_min}
 use Rattle.std.specs.Float.Order.{le_refl, le_trans, le_right}
@@ -11,20 +11,11 @@ use Rattle.item_limits.specs.LimitLaws.{Number, Below, Ordered, Held, Fits}
 
 -- ---- the larger and the smaller of two, where only the second need be no NaN
 
-by_test : (P : Float → Type 0) (a b : Bool) (x y : Float) → T (not b) → (T a → P x) → P y → P (cond (a || b) x y)
-by_test P true b x y n p q = p tt
-by_test P false true x y n p q = absurd n
-by_test P false false x y n p q = q
-
-chosen : (a b : Bool) (x y : Float) → T a → cond (a || b) x y ≡ x
-chosen true b x y t = refl
-chosen false b x y t = absurd t
-
 pub above_second : (x y : Float) → Number y → T (le y (float_max x y))
-above_second x y n = by_test (λ (z : Float). T (le y z)) (le y x) (is_nan y) x y n (λ t. t) (le_refl y n)
+above_second x y n = grind (arith, le_refl)
 
 below_second : (x y : Float) → Number y → T (le (float_min x y) y)
-below_second x y n = by_test (λ (z : Float). T (le z y)) (le x y) (is_nan y) x y n (λ t. t) (le_refl y n)
+below_second x y n = grind (arith, le_refl)
 
 -- ---- limits that a style makes
 
@@ -53,10 +44,7 @@ below_maximum (Some t) m s p =
 below_maximum None m s p = tt
 
 stays : (o : Option SideLength) (m s : SideLength) → T (le m.border s.border) → Below o s.border → (at_least (under o s) m).border ≡ s.border
-stays (Some t) m s p q =
-    ap (λ (x : Float). float_max x m.border) (chosen (le s.border t.border) (is_nan t.border) s.border t.border q)
-    ∙ chosen (le m.border s.border) (is_nan m.border) s.border m.border p
-stays None m s p q = chosen (le m.border s.border) (is_nan m.border) s.border m.border p
+stays o m s p q = grind arith
 
 pub clamped_held : (l : Limits) (s : SideLength) → Held l (clamped l s).border
 clamped_held l s = record {

@@ -39,17 +39,10 @@ by_test P false x y p q = q refl
 aligned_sized : (a : ItemAxis) → T (can_fill a) → (k : AlignItemsKeyword) → Sized a (sizing_by_alignment a k)
 aligned_sized a t item.Normal =
     by_test (Sized a) (normal_fills a.axis a.is_out_of_flow a.is_replaced a.has_ratio) (Filled (stretch_fit_side a)) Free (λ _. fills a t) (λ _. tt)
-aligned_sized a t item.Start = tt
-aligned_sized a t item.End = tt
-aligned_sized a t item.FlexStart = tt
-aligned_sized a t item.FlexEnd = tt
-aligned_sized a t item.SelfStart = tt
-aligned_sized a t item.SelfEnd = tt
-aligned_sized a t item.Center = tt
-aligned_sized a t item.Baseline = tt
 aligned_sized a t item.Stretch =
     by_test (Sized a) a.is_out_of_flow (Filled (stretch_fit_side a)) (cond (no_safety a.alignment.safety) (Stretched (stretch_fit_side a)) Free) (λ _. fills a t) (λ in_flow.
     by_test (Sized a) (no_safety a.alignment.safety) (Stretched (stretch_fit_side a)) Free (λ _. (fills a t, in_flow)) (λ _. tt))
+aligned_sized a t _ = tt
 
 auto_sized : (a : ItemAxis) → Sized a (auto_sizing a)
 auto_sized a = by_test (Sized a) (can_fill a) (sizing_by_alignment a a.alignment.keyword) Free (λ t. aligned_sized a t a.alignment.keyword) (λ _. tt)
