@@ -1,6 +1,6 @@
 -- A length that is clamped is held in its limits, and limits that a style makes are in order.
-use Rattle.std.proofs.Common.{◌≡◌, Bool, true, false, cond, not, ◌||◌, T, Some, None, Option, unwrap_or, sym, subst, arith}
-use lib.Ieee.{Float, binary32, le, is_nan, add}
+use Rattle.std.proofs.Common.{◌≡◌, T, Option, unwrap_or, sym, subst, arith}
+use lib.Ieee.{Float, le}
 use Rattle.std.specs.Float.{float_max, float_min}
 use Rattle.std.specs.Float.Order.{le_refl, le_trans, le_right}
 use Rattle.number.proofs.Order.{most_least}
@@ -21,12 +21,10 @@ below_second x y n = grind (arith, le_refl)
 
 -- what stands for a limit, where b stands for one that is not there
 limit_above : (b : SideLength) (a : Float) (o : Option Float) → Number b.border → T (le b.border (unwrap_or (limit b a o) b).border)
-limit_above b a (Some v) n = above_second (add binary32 v a) b.border n
-limit_above b a None n = le_refl b.border n
+limit_above b a o n = grind (arith, above_second, le_refl)
 
 limit_below : (b : SideLength) (a : Float) (o : Option Float) → Number b.border → Below (limit b a o) b.border
-limit_below b a (Some v) n = above_second (add binary32 v a) b.border n
-limit_below b a None n = tt
+limit_below b a o n = grind (arith, above_second)
 
 pub limits_ordered : (min max : Option Float) (e a : Float) (l : Limits) → l ≡ limits_of min max e a → Number e → Ordered e l
 limits_ordered min max e a l q n =
@@ -39,9 +37,7 @@ limits_ordered min max e a l q n =
 -- ---- a length that is clamped
 
 below_maximum : (o : Option SideLength) (m s : SideLength) → Below o m.border → Below o (at_least (under o s) m).border
-below_maximum (Some t) m s p =
-    most_least (float_min s.border t.border) m.border t.border (below_second s.border t.border (le_right m.border t.border p)) p
-below_maximum None m s p = tt
+below_maximum o m s p = grind (arith, most_least, below_second, le_right)
 
 stays : (o : Option SideLength) (m s : SideLength) → T (le m.border s.border) → Below o s.border → (at_least (under o s) m).border ≡ s.border
 stays o m s p q = grind arith

@@ -119,12 +119,12 @@ impl ItemAxis {
     fn keyword_sizing(self, size: PreferredSize) -> Option<SideSizing>
         ensures { result ≡ keyword_sizing self size }
     {
-        let keyword = resolve_sizing_keyword(
+        resolve_sizing_keyword(
             size.style,
             Some(self.stretch_fit_size()),
             size.fit_content_limit,
-        )?;
-        Some(match keyword {
+        )
+        .map(|keyword| match keyword {
             SizingKeywordResolution::Exact(size) => SideSizing::Given(SideLength::of_border(
                 size,
                 self.adjustment,

@@ -8,7 +8,7 @@ use Rattle.style.specs.declared.length.AvailableSpace.{AvailableSpace}
 use Rattle.style.specs.declared.length.AvailableSpace.TheVariants.{Definite, MinContent, MaxContent}
 use Rattle.style.specs.declared.range.StyleField.{StyleField}
 use Rattle.style.specs.declared.style.Style.{Style}
-use Rattle.tree.specs.Meaning.{Means, measures, lays_out, fetches, styles_at, raise}
+use Rattle.tree.specs.Meaning.{Means, measures, lays_out, fetches, styles_at, Counts}
 use Rattle.tree.specs.declared.fault.HostFault.{HostFault}
 use Rattle.tree.specs.declared.layout.LayoutOutput.{LayoutOutput}
 use Rattle.tree.specs.declared.layout.OofCandidate.{OofCandidate}
@@ -72,8 +72,8 @@ styled m n = ranged (styles_at m n)
 
 -- ---- what a question leaves behind
 
--- the host is in order and means what it did; a tally on top has so many measurements and layouts more
-pub record Asked {H : Type 0} (host : Ghosts H) (before after : H) (measurements layouts : ℕ) : Type 0 where
+-- the host is in order and means what it did, and a tally on top has counted this
+pub record Asked {H : Type 0} (host : Ghosts H) (before after : H) (counted : Option Counts → Option Counts) : Type 0 where
   pub order : host.ordered after
   pub same : host.meaning after ≡ host.meaning before
-  pub counts : host.tallied after ≡ raise measurements layouts (host.tallied before)
+  pub counts : host.tallied after ≡ counted (host.tallied before)

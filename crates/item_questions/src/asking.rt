@@ -1,5 +1,6 @@
 // Each question to the host, once: with its zeros unsigned, its answer checked against the limits.
 ghost use Rattle.std.specs.Prelude.{◌≡◌};
+ghost use Rattle.tree.specs.Meaning.{raise};
 ghost use Rattle.item_questions.specs.Asking.{unsigned_option, unsigned_space, unsigned as unsigned_question, taken, Asked};
 ghost use Rattle.item_questions.specs.Asking.{measured, laid_out, fetched, styled};
 
@@ -60,7 +61,7 @@ pub fn measure<H: LayoutPartialTree>(
 ) -> Result<Size<f32>, ItemFault>
     requires { H.ordered host.old }
     ensures answer { result ≡ measured (H.meaning host.old).means question }
-    ensures asked { Asked H.LayoutPartialTree host.old host.new 1 0 }
+    ensures asked { Asked H.LayoutPartialTree host.old host.new (raise 1 0) }
 {
     taken(host.measure(unsigned(question)), ItemFault::SizeOutOfLimits)
 }
@@ -72,7 +73,7 @@ pub fn perform_layout<H: LayoutPartialTree>(
 ) -> Result<LayoutOutput, ItemFault>
     requires { H.ordered host.old }
     ensures answer { result ≡ laid_out (H.meaning host.old).means question }
-    ensures asked { Asked H.LayoutPartialTree host.old host.new 0 1 }
+    ensures asked { Asked H.LayoutPartialTree host.old host.new (raise 0 1) }
 {
     taken(
         host.perform_layout(unsigned(question)),
@@ -81,7 +82,6 @@ pub fn perform_layout<H: LayoutPartialTree>(
 }
 
 // One of the candidates of the layout that a question asked for.
-// Its clauses are the host's own: a tally stays the very same, and `Asked` at 0 and 0 says so only once the cases of the tally are told apart.
 pub fn fetch_candidate<H: LayoutPartialTree>(
     host: &mut H,
     question: Question,
@@ -89,9 +89,7 @@ pub fn fetch_candidate<H: LayoutPartialTree>(
 ) -> Result<OofCandidate, ItemFault>
     requires { H.ordered host.old }
     ensures answer { result ≡ fetched (H.meaning host.old).means question index }
-    ensures order { H.ordered host.new }
-    ensures same { H.meaning host.new ≡ H.meaning host.old }
-    ensures counts { H.tallied host.new ≡ H.tallied host.old }
+    ensures asked { Asked H.LayoutPartialTree host.old host.new (λ counts. counts) }
 {
     taken(
         host.fetch_candidate(unsigned(question), index),

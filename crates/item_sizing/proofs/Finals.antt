@@ -1,16 +1,15 @@
 -- An item that is laid out takes at most two measurements and one layout, and its final sizes are at least their minima.
-use Rattle.std.proofs.Common.{◌≡◌, ℕ, ◌+◌, ◌≤◌, Bool, true, false, cond, T, IfOk, Some, None, Ok, Err, Option, Result, unwrap_or, sym, subst, arith, lit≤}
+use Rattle.std.proofs.Common.{◌≡◌, ℕ, Bool, true, false, cond, T, IfOk, Some, None, Ok, Err, Option, Result, unwrap_or, sym, subst, arith, lit≤}
 use lib.Ieee.{Float, le}
 use Rattle.std.specs.Float.Order.{le_trans, le_right}
 use Rattle.geometry.specs.declared.Size.{Size}
 use Rattle.tree.specs.Meaning.{Means}
-use Rattle.tree.specs.declared.layout.LayoutOutput.{LayoutOutput}
 use Rattle.item_limits.specs.Limits.{least}
 use Rattle.item_limits.specs.declared.limits.SideLength.{SideLength}
 use Rattle.item_limits.proofs.Held.{above_second}
 use Rattle.item_questions.specs.Asking.{measured, laid_out}
 use Rattle.item_questions.specs.declared.fault.ItemFault.{ItemFault}
-use Rattle.item_sizing.specs.Found.{Found, by_measuring, map_found, then_found}
+use Rattle.item_sizing.specs.Found.{Found}
 use Rattle.item_sizing.specs.UsedSizes.{used_sizes}
 use Rattle.item_sizing.specs.LaidOut.{whole_question, max_width, max_height, under_max, held, answered, wants_measuring, filled, both_known, laid_out_at, laid_out_with, laid_out_item}
 use Rattle.item_sizing.specs.SizingLaws.{NotBelow, Floor, Sized}

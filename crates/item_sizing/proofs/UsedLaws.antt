@@ -1,8 +1,7 @@
 -- The used sizes of an item are at least their minima, and take at most two measurements: each side that took one is there.
-use Rattle.std.proofs.Common.{ℕ, ◌+◌, ◌≤◌, Bool, true, false, cond, not, ◌&&◌, ◌||◌, T, is_some, IfOk, Some, None, Ok, Err, Option, Result, option_map, arith, lit≤}
-use lib.Ieee.{Float, le, is_nan}
-use Rattle.std.specs.Float.{float_max}
-use Rattle.std.specs.Float.Order.{le_trans, le_right, le_refl}
+use Rattle.std.proofs.Common.{ℕ, ◌+◌, ◌≤◌, Bool, cond, not, ◌&&◌, T, is_some, IfOk, Some, None, Ok, Err, Option, Result, option_map, arith, lit≤}
+use lib.Ieee.{Float, le}
+use Rattle.std.specs.Float.Order.{le_trans, le_right}
 use Rattle.geometry.specs.declared.Size.{Size}
 use Rattle.style.specs.declared.length.AvailableSpace.{AvailableSpace}
 use Rattle.tree.specs.Meaning.{Means}
@@ -16,7 +15,7 @@ use Rattle.item_limits.specs.declared.item_axis.SideSizing.TheVariants.{Given, C
 use Rattle.item_limits.proofs.Held.{above_second}
 use Rattle.item_questions.specs.Asking.{measured}
 use Rattle.item_questions.specs.declared.fault.ItemFault.{ItemFault}
-use Rattle.item_sizing.specs.Found.{Found, known, by_measuring, made_of, map_found, then_by, then_found}
+use Rattle.item_sizing.specs.Found.{Found, known, by_measuring, made_of, map_found, then_by}
 use Rattle.item_sizing.specs.UsedSizes.{height_question, used_length, content_height, used_width_by, used_width, used_height_by, used_height, sizes_by_axis, given_height_first, box_by_height, box_by_sides, ratio_box, own_height, sizes_of_box, sizes_by_ratio, ratio_of, used_sizes_by, used_sizes}
 use Rattle.item_sizing.specs.LaidOut.{wants_measuring}
 use Rattle.item_sizing.specs.declared.sizing_item.SizingItem.{SizingItem}

@@ -1,7 +1,7 @@
 -- What is found by asking a host: a reply, and how many questions it took.
 use Rattle.std.specs.Prelude.{◌≡◌, ℕ, ◌+◌, Ok, Err, Result, Float}
 use Rattle.geometry.specs.declared.Size.{Size}
-use Rattle.tree.specs.Meaning.{Means}
+use Rattle.tree.specs.Meaning.{Means, raise}
 use Rattle.tree.specs.declared.layout.LayoutOutput.{LayoutOutput}
 use Rattle.tree.specs.declared.question.Question.{Question}
 use Rattle.tree.specs.declared.traits.LayoutPartialTree.{Ghosts}
@@ -42,4 +42,4 @@ then_found o g = then_by o.measurements o.layouts o.reply g
 -- a call finds this: its reply, from a host that was asked just these questions
 pub record Finds {H A : Type 0} (host : Ghosts H) (before after : H) (o : Found A) (r : Result A ItemFault) : Type 0 where
   pub reply : r ≡ o.reply
-  pub asked : Asked host before after o.measurements o.layouts
+  pub asked : Asked host before after (raise o.measurements o.layouts)
