@@ -1,8 +1,8 @@
 -- The space that a side may fill, and what the side is to be.
-use Rattle.std.specs.Prelude.{Bool, cond, ◌&&◌, is_some, Some, None, Option, from_bits, Float}
+use Rattle.std.specs.Prelude.{Bool, cond, ◌&&◌, is_some, Some, Option, from_bits, Float}
 use Rattle.std.specs.Float.Ieee.{sub}
 use Rattle.std.specs.Float.{float_max, binary32}
-use Rattle.std.specs.Option.{unwrap_or}
+use Rattle.std.specs.Option.{unwrap_or, option_map, option_or}
 use Rattle.geometry.specs.declared.Line.{Line}
 use Rattle.maybe_math.specs.MaybeMath.{maybe_sub}
 use Rattle.style.specs.declared.alignment.AlignItemsKeyword.{AlignItemsKeyword}
@@ -74,17 +74,18 @@ sizing_by_alignment a item.Stretch = stretch_sizing a a.alignment.safety
 abbrev pub auto_sizing : ItemAxis → SideSizing
 auto_sizing a = cond (can_fill a) (sizing_by_alignment a a.alignment.keyword) Free
 
--- a sizing keyword, or none
-abbrev pub sizing_by_keyword : ItemAxis → Option SizingKeywordResolution → SideSizing
-sizing_by_keyword a (Some (Exact x)) = Given (border_length a.adjustment x)
-sizing_by_keyword a (Some (Measure space)) = Content space
-sizing_by_keyword a None = auto_sizing a
+abbrev pub sizing_of_keyword : ItemAxis → SizingKeywordResolution → SideSizing
+sizing_of_keyword a (Exact x) = Given (border_length a.adjustment x)
+sizing_of_keyword a (Measure space) = Content space
 
--- a length, or none
-abbrev pub sizing_by_length : ItemAxis → PreferredSize → Option Float → SideSizing
-sizing_by_length a size (Some x) = Given (named_length a.adjustment x)
-sizing_by_length a size None = sizing_by_keyword a (sizing_keyword_resolution size.style (Some (stretch_fit_size a)) size.fit_content_limit)
+-- by a sizing keyword, where the size is one
+abbrev pub keyword_sizing : ItemAxis → PreferredSize → Option SideSizing
+keyword_sizing a size = option_map (sizing_of_keyword a) (sizing_keyword_resolution size.style (Some (stretch_fit_size a)) size.fit_content_limit)
+
+-- by a length, where the size is one
+abbrev pub length_sizing : ItemAxis → PreferredSize → Option SideSizing
+length_sizing a size = option_map (λ x. Given (named_length a.adjustment x)) size.length
 
 -- a length first, then a sizing keyword, then the alignment
 abbrev pub side_sizing : ItemAxis → PreferredSize → SideSizing
-side_sizing a size = sizing_by_length a size size.length
+side_sizing a size = unwrap_or (option_or (length_sizing a size) (keyword_sizing a size)) (auto_sizing a)

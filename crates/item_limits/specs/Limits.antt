@@ -1,7 +1,8 @@
 -- A length of a side of a box, said in two boxes, and the limits that the side is held in.
-use Rattle.std.specs.Prelude.{is_some, Some, None, Option, from_bits, Float}
+use Rattle.std.specs.Prelude.{Some, None, Option, from_bits, Float}
 use Rattle.std.specs.Float.Ieee.{add, sub}
 use Rattle.std.specs.Float.{float_max, float_min, binary32}
+use Rattle.std.specs.Option.{option_map, unwrap_or}
 use Rattle.style.specs.declared.modes.BoxSizing.{BoxSizing}
 use Rattle.style.specs.declared.modes.BoxSizing.TheVariants.{BorderBox, ContentBox}
 use Rattle.item_limits.specs.declared.limits.SideLength.{SideLength}
@@ -27,23 +28,25 @@ at_most s t = record { named = float_min s.named t.named; border = float_min s.b
 abbrev pub at_least : SideLength → SideLength → SideLength
 at_least s t = record { named = float_max s.named t.named; border = float_max s.border t.border }
 
--- the style's minimum, and at least padding and border
-abbrev pub minimum : (padding_border adjustment : Float) → Option Float → SideLength
-minimum padding_border adjustment (Some v) = at_least (named_length adjustment v) (border_length adjustment padding_border)
-minimum padding_border adjustment None = border_length adjustment padding_border
+-- a limit of the style, and at least the bound
+abbrev pub limit : (bound : SideLength) (adjustment : Float) → Option Float → Option SideLength
+limit bound adjustment length = option_map (λ v. at_least (named_length adjustment v) bound) length
 
--- the style's maximum, and at least the minimum
-abbrev pub maximum : (min : SideLength) (adjustment : Float) → Option Float → Option SideLength
-maximum min adjustment (Some v) = Some (at_least (named_length adjustment v) min)
-maximum min adjustment None = None
+-- what the minimum comes to: the style's own, else what padding and border take
+abbrev pub least : Limits → SideLength
+least l = unwrap_or l.min l.padding_border
 
+-- the minimum is at least padding and border, the maximum at least the minimum
 abbrev pub limits_of : (min max : Option Float) (padding_border adjustment : Float) → Limits
-limits_of min max padding_border adjustment = record {
-  adjustment = adjustment;
-  min = minimum padding_border adjustment min;
-  has_min = is_some min;
-  max = maximum (minimum padding_border adjustment min) adjustment max;
-}
+limits_of min max padding_border adjustment =
+    let floor : SideLength = border_length adjustment padding_border in
+    let own : Option SideLength = limit floor adjustment min in
+    record {
+      adjustment = adjustment;
+      padding_border = floor;
+      min = own;
+      max = limit (unwrap_or own floor) adjustment max;
+    }
 
 -- at most the maximum, where there is one
 abbrev pub under : Option SideLength → SideLength → SideLength
@@ -52,4 +55,4 @@ under None s = s
 
 -- the maximum first, the minimum last
 abbrev pub clamped : Limits → SideLength → SideLength
-clamped l s = at_least (under l.max s) l.min
+clamped l s = at_least (under l.max s) (least l)

@@ -1,7 +1,7 @@
 // One axis of an item: the space that its side may fill, and what the side is to be before its content is measured.
 ghost use Rattle.std.specs.Prelude.{◌≡◌, T};
 ghost use Rattle.std.specs.Float.Ieee.{le};
-ghost use Rattle.item_limits.specs.ItemAxes.{zero, stretch_fit_size, can_fill, auto_sizing, side_sizing, stretch_fit_side};
+ghost use Rattle.item_limits.specs.ItemAxes.{zero, stretch_fit_size, can_fill, auto_sizing, keyword_sizing, side_sizing, stretch_fit_side};
 ghost use Rattle.item_limits.specs.ItemAxisLaws.{Sized};
 
 use crate::limits::SideLength;
@@ -58,8 +58,10 @@ pub enum SideSizing {
 }
 
 impl ItemAxis {
-    fn space(self) -> f32
-        ensures { result ≡ stretch_fit_size self }
+    // The area less the margins and, out of flow, the insets: the border box that fills it.
+    pub fn stretch_fit_size(self) -> f32
+        ensures size { result ≡ stretch_fit_size self }
+        ensures law { T (le zero result) }
     {
         let inner = self
             .area
@@ -74,18 +76,10 @@ impl ItemAxis {
         f32_max(left, 0.0)
     }
 
-    // The area less the margins and, out of flow, the insets: the border box that fills it.
-    pub fn stretch_fit_size(self) -> f32
-        ensures size { result ≡ stretch_fit_size self }
-        ensures law { T (le zero result) }
-    {
-        self.space()
-    }
-
     fn stretch_fit_side(self) -> SideLength
         ensures { result ≡ stretch_fit_side self }
     {
-        SideLength::of_border(self.space(), self.adjustment)
+        SideLength::of_border(self.stretch_fit_size(), self.adjustment)
     }
 
     // Nothing along the axis is auto but the size: in flow no margin, out of flow no inset.
@@ -107,6 +101,7 @@ impl ItemAxis {
         if !self.can_fill() {
             return SideSizing::Free;
         }
+        let side = self.stretch_fit_side();
         let fills = normal_fills(
             self.axis,
             self.is_out_of_flow,
@@ -114,43 +109,38 @@ impl ItemAxis {
             self.has_ratio,
         );
         match (self.alignment.keyword, self.alignment.safety) {
-            (AlignItemsKeyword::Stretch, AlignmentSafety::Default) if !self.is_out_of_flow =>
-                SideSizing::Stretched(self.stretch_fit_side()),
-            (AlignItemsKeyword::Stretch, _) if self.is_out_of_flow => SideSizing::Filled(
-                self.stretch_fit_side(),
-            ),
-            (AlignItemsKeyword::Normal, _) if fills => SideSizing::Filled(self.stretch_fit_side()),
+            (AlignItemsKeyword::Stretch, _) if self.is_out_of_flow => SideSizing::Filled(side),
+            (AlignItemsKeyword::Stretch, AlignmentSafety::Default) => SideSizing::Stretched(side),
+            (AlignItemsKeyword::Normal, _) if fills => SideSizing::Filled(side),
             _ => SideSizing::Free,
         }
     }
 
-    fn sizing_of(self, size: PreferredSize) -> SideSizing
-        ensures { result ≡ side_sizing self size }
+    fn keyword_sizing(self, size: PreferredSize) -> Option<SideSizing>
+        ensures { result ≡ keyword_sizing self size }
     {
-        if let Some(length) = size.length {
-            return SideSizing::Given(SideLength::of_named(length, self.adjustment));
-        }
-        let Some(keyword) = resolve_sizing_keyword(
+        resolve_sizing_keyword(
             size.style,
-            Some(self.space()),
+            Some(self.stretch_fit_size()),
             size.fit_content_limit,
-        ) else {
-            return self.auto_sizing();
-        };
-        match keyword {
+        )
+        .map(|keyword| match keyword {
             SizingKeywordResolution::Exact(size) => SideSizing::Given(SideLength::of_border(
                 size,
                 self.adjustment,
             )),
             SizingKeywordResolution::Measure(space) => SideSizing::Content(space),
-        }
+        })
     }
 
-    // What a side of this size is to be.
+    // What a side of this size is to be: by a length first, then by a sizing keyword, then by the alignment.
     pub fn side_sizing(self, size: PreferredSize) -> SideSizing
         ensures sizing { result ≡ side_sizing self size }
         ensures law { Sized self result }
     {
-        self.sizing_of(size)
+        size.length
+            .map(|length| SideSizing::Given(SideLength::of_named(length, self.adjustment)))
+            .or_else(|| self.keyword_sizing(size))
+            .unwrap_or_else(|| self.auto_sizing())
     }
 }

@@ -1,6 +1,6 @@
 // A length of a side of a box, and the limits that the side is held in, per CSS Sizing 3.
 ghost use Rattle.std.specs.Prelude.{◌≡◌};
-ghost use Rattle.item_limits.specs.Limits.{adjustment_of, named_length, border_length, at_most, at_least, limits_of, clamped};
+ghost use Rattle.item_limits.specs.Limits.{adjustment_of, named_length, border_length, at_most, at_least, least, limits_of, clamped};
 ghost use Rattle.item_limits.specs.LimitLaws.{Number, Ordered, Fits};
 
 use number::{f32_max, f32_min};
@@ -18,9 +18,11 @@ pub struct SideLength {
 pub struct Limits {
     // The border box less the box that `box-sizing` names.
     pub adjustment: f32,
-    pub min: SideLength,
-    // The style has a minimum of its own.
-    pub has_min: bool,
+    // What padding and border take: no side is smaller.
+    pub padding_border: SideLength,
+    // The style's own minimum, where it has one, and at least padding and border.
+    pub min: Option<SideLength>,
+    // The style's maximum, and at least the minimum.
     pub max: Option<SideLength>,
 }
 
@@ -75,32 +77,6 @@ impl SideLength {
 }
 
 impl Limits {
-    fn by_style(
-        min: Option<f32>,
-        max: Option<f32>,
-        padding_border: f32,
-        box_sizing: BoxSizing,
-    ) -> Limits
-        ensures { result ≡ limits_of min max padding_border (adjustment_of box_sizing padding_border) }
-    {
-        let adjustment = box_sizing_adjustment(box_sizing, padding_border);
-        let floor = SideLength::of_border(padding_border, adjustment);
-        let lower = match min {
-            Some(length) => SideLength::of_named(length, adjustment).at_least(floor),
-            None => floor,
-        };
-        let upper = match max {
-            Some(length) => Some(SideLength::of_named(length, adjustment).at_least(lower)),
-            None => None,
-        };
-        Limits {
-            adjustment,
-            min: lower,
-            has_min: min.is_some(),
-            max: upper,
-        }
-    }
-
     // From the style's minimum and maximum, as lengths of the box that `box-sizing` names.
     pub fn of_style(
         min: Option<f32>,
@@ -111,24 +87,46 @@ impl Limits {
         ensures limits { result ≡ limits_of min max padding_border (adjustment_of box_sizing padding_border) }
         ensures law { Number padding_border → Ordered padding_border result }
     {
-        Limits::by_style(min, max, padding_border, box_sizing)
-    }
-
-    // The maximum first, the minimum last: where they cross, the minimum stands.
-    pub fn clamp(self, length: SideLength) -> SideLength
-        ensures { result ≡ clamped self length }
-    {
-        match self.max {
-            Some(max) => length.at_most(max).at_least(self.min),
-            None => length.at_least(self.min),
+        let adjustment = box_sizing_adjustment(box_sizing, padding_border);
+        let floor = SideLength::of_border(padding_border, adjustment);
+        let min = min.map(|length| SideLength::of_named(length, adjustment).at_least(floor));
+        let least = min.unwrap_or(floor);
+        let max = max.map(|length| SideLength::of_named(length, adjustment).at_least(least));
+        Limits {
+            adjustment,
+            padding_border: floor,
+            min,
+            max,
         }
     }
 
-    // `clamp`, with what it promises.
+    // A length of the box that `box-sizing` names.
+    pub fn named_length(self, length: f32) -> SideLength
+        ensures { result ≡ named_length self.adjustment length }
+    {
+        SideLength::of_named(length, self.adjustment)
+    }
+
+    // A length of the border box.
+    pub fn border_length(self, length: f32) -> SideLength
+        ensures { result ≡ border_length self.adjustment length }
+    {
+        SideLength::of_border(length, self.adjustment)
+    }
+
+    // What the minimum comes to.
+    pub fn least(self) -> SideLength
+        ensures { result ≡ least self }
+    {
+        self.min.unwrap_or(self.padding_border)
+    }
+
+    // The length, held in the limits. The maximum first, the minimum last: where they cross, the minimum stands.
     pub fn fit(self, length: SideLength) -> SideLength
         ensures length { result ≡ clamped self length }
         ensures law { Fits self length result }
     {
-        self.clamp(length)
+        let capped = self.max.map_or(length, |max| length.at_most(max));
+        capped.at_least(self.least())
     }
 }

@@ -1,6 +1,6 @@
 // Boxes whose sides stand in a preferred aspect ratio, and the limits that one side transfers to the other, per CSS Sizing 4.
 ghost use Rattle.std.specs.Prelude.{◌≡◌};
-ghost use Rattle.item_limits.specs.RatioBoxes.{box_of_width, box_of_height, box_at_most, box_at_least, limited_box};
+ghost use Rattle.item_limits.specs.RatioBoxes.{box_of_width, box_of_height, limited_box};
 ghost use Rattle.item_limits.specs.LimitLaws.{Held};
 
 use crate::limits::{Limits, SideLength};
@@ -13,26 +13,6 @@ pub struct AspectRatio {
     pub limits: Size<Limits>,
 }
 
-// Side by side the smaller.
-pub fn box_at_most(a: Size<SideLength>, b: Size<SideLength>) -> Size<SideLength>
-    ensures { result ≡ box_at_most a b }
-{
-    Size {
-        width: a.width.at_most(b.width),
-        height: a.height.at_most(b.height),
-    }
-}
-
-// Side by side the larger.
-pub fn box_at_least(a: Size<SideLength>, b: Size<SideLength>) -> Size<SideLength>
-    ensures { result ≡ box_at_least a b }
-{
-    Size {
-        width: a.width.at_least(b.width),
-        height: a.height.at_least(b.height),
-    }
-}
-
 impl AspectRatio {
     // The box of this width.
     pub fn box_of_width(self, width: SideLength) -> Size<SideLength>
@@ -40,7 +20,7 @@ impl AspectRatio {
     {
         Size {
             width,
-            height: SideLength::of_named(width.named / self.ratio, self.limits.height.adjustment),
+            height: self.limits.height.named_length(width.named / self.ratio),
         }
     }
 
@@ -49,37 +29,27 @@ impl AspectRatio {
         ensures { result ≡ box_of_height self height }
     {
         Size {
-            width: SideLength::of_named(height.named * self.ratio, self.limits.width.adjustment),
+            width: self.limits.width.named_length(height.named * self.ratio),
             height,
         }
     }
 
     // A box of which neither side is definite, bounded side by side by the boxes of its limits.
     // The limits of the height first, those of the width last. A minimum height counts if the style has one.
-    pub fn limited_box(self, natural: Size<SideLength>) -> Size<SideLength>
-        ensures { result ≡ limited_box self natural }
-    {
-        let low = match self.limits.height.max {
-            Some(max) => box_at_most(natural, self.box_of_height(max)),
-            None => natural,
-        };
-        let high = if self.limits.height.has_min {
-            box_at_least(low, self.box_of_height(self.limits.height.min))
-        } else {
-            low
-        };
-        let narrow = match self.limits.width.max {
-            Some(max) => box_at_most(high, self.box_of_width(max)),
-            None => high,
-        };
-        box_at_least(narrow, self.box_of_width(self.limits.width.min))
-    }
-
-    // `limited_box`, with what it promises.
     pub fn limited(self, natural: Size<SideLength>) -> Size<SideLength>
         ensures sides { result ≡ limited_box self natural }
         ensures law { Held self.limits.width result.width.border }
     {
-        self.limited_box(natural)
+        let Size { width, height } = self.limits;
+        let low = height.max.map_or(natural, |max| {
+            natural.zip_map(self.box_of_height(max), SideLength::at_most)
+        });
+        let high = height.min.map_or(low, |min| {
+            low.zip_map(self.box_of_height(min), SideLength::at_least)
+        });
+        let narrow = width.max.map_or(high, |max| {
+            high.zip_map(self.box_of_width(max), SideLength::at_most)
+        });
+        narrow.zip_map(self.box_of_width(width.least()), SideLength::at_least)
     }
 }

@@ -1,29 +1,10 @@
 // The alignment of an item within its area along one axis, per CSS Box Alignment 3.
 ghost use Rattle.std.specs.Prelude.{◌≡◌};
 ghost use Rattle.std.specs.Option.{unwrap_or};
-ghost use Rattle.item_limits.specs.SelfAlignment.{inline_axis, self_alignment, ContainerRelative, normal_fills};
+ghost use Rattle.item_limits.specs.SelfAlignment.{self_alignment, ContainerRelative, normal_fills};
 
 use geometry::AbsoluteAxis;
 use style::alignment::{AlignItems, Direction};
-
-fn is_inline(axis: AbsoluteAxis) -> bool
-    ensures { result ≡ inline_axis axis }
-{
-    matches!(axis, AbsoluteAxis::Horizontal)
-}
-
-fn in_words_of_container(
-    own: Option<AlignItems>,
-    container: AlignItems,
-    item_direction: Direction,
-    container_direction: Direction,
-    axis: AbsoluteAxis,
-) -> AlignItems
-    ensures { result ≡ self_alignment own container item_direction container_direction axis }
-{
-    let alignment = own.unwrap_or(container);
-    alignment.resolve_self_relative(item_direction, container_direction, is_inline(axis))
-}
 
 // The item's own alignment, else the container's; `self-start` and `self-end` by the direction of the item. The inline axis is the horizontal one.
 pub fn self_alignment(
@@ -36,7 +17,9 @@ pub fn self_alignment(
     ensures alignment { result ≡ self_alignment own container item_direction container_direction axis }
     ensures law { ContainerRelative (unwrap_or own container) result }
 {
-    in_words_of_container(own, container, item_direction, container_direction, axis)
+    let alignment = own.unwrap_or(container);
+    let is_inline = axis == AbsoluteAxis::Horizontal;
+    alignment.resolve_self_relative(item_direction, container_direction, is_inline)
 }
 
 // Where `normal` behaves as `stretch`, per CSS Grid 1, section 6.2; elsewhere it behaves as `start`. In flow a box with a ratio takes its height from its width.

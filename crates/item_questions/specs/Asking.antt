@@ -1,20 +1,20 @@
 -- The questions that placing an item puts to its host: zeros go down without sign, and answers are taken if their numbers are in limits.
-use Rattle.std.specs.Prelude.{ℕ, Bool, cond, ◌&&◌, Some, None, Ok, Err, Option, Result, Float}
-use Rattle.geometry.specs.declared.Line.{Line}
-use Rattle.geometry.specs.declared.Rect.{Rect}
+use Rattle.std.specs.Prelude.{◌≡◌, ℕ, Bool, cond, Some, None, Ok, Err, Option, Result, Float}
 use Rattle.geometry.specs.declared.Size.{Size}
 use Rattle.number.specs.Limits.{in_limits}
 use Rattle.number.specs.Zeros.{without_zero_sign}
-use Rattle.style.specs.Ranges.{if_any, first_out_of_range}
+use Rattle.style.specs.Ranges.{first_out_of_range}
 use Rattle.style.specs.declared.length.AvailableSpace.{AvailableSpace}
 use Rattle.style.specs.declared.length.AvailableSpace.TheVariants.{Definite, MinContent, MaxContent}
 use Rattle.style.specs.declared.range.StyleField.{StyleField}
 use Rattle.style.specs.declared.style.Style.{Style}
-use Rattle.tree.specs.Meaning.{Means, measures, lays_out, fetches, styles_at}
+use Rattle.tree.specs.Meaning.{Means, measures, lays_out, fetches, styles_at, Counts}
 use Rattle.tree.specs.declared.fault.HostFault.{HostFault}
 use Rattle.tree.specs.declared.layout.LayoutOutput.{LayoutOutput}
 use Rattle.tree.specs.declared.layout.OofCandidate.{OofCandidate}
 use Rattle.tree.specs.declared.question.Question.{Question}
+use Rattle.tree.specs.declared.traits.LayoutPartialTree.{Ghosts}
+use Rattle.item_questions.specs.Within.{size_within, layout_in_limits, candidate_in_limits}
 use Rattle.item_questions.specs.declared.fault.ItemFault.{ItemFault}
 use Rattle.item_questions.specs.declared.fault.ItemFault.TheVariants.{Host, StyleOutOfRange, SizeOutOfLimits, LayoutOutOfLimits, CandidateOutOfLimits}
 
@@ -48,24 +48,9 @@ abbrev pub taken : {A : Type 0} → (A → Bool) → ItemFault → Result A Host
 taken in_range fault (Err f) = Err (Host f)
 taken in_range fault (Ok a) = cond (in_range a) (Ok a) (Err fault)
 
-abbrev pub size_in_limits : Size Float → Bool
-size_in_limits s = in_limits s.width && in_limits s.height
-
-abbrev pub rect_in_limits : Rect Float → Bool
-rect_in_limits r = in_limits r.left && in_limits r.right && in_limits r.top && in_limits r.bottom
-
-abbrev pub layout_in_limits : LayoutOutput → Bool
-layout_in_limits l = size_in_limits l.size && rect_in_limits l.scrollable_overflow_rect && if_any in_limits l.first_baseline
-
-abbrev pub line_in_limits : Line Float → Bool
-line_in_limits l = in_limits l.start && in_limits l.end
-
-abbrev pub candidate_in_limits : OofCandidate → Bool
-candidate_in_limits c = line_in_limits c.static_position.x.area && line_in_limits c.static_position.y.area
-
 -- both sides of a measured size count, whichever was wanted
 abbrev pub measured : Means → Question → Result (Size Float) ItemFault
-measured m q = taken size_in_limits SizeOutOfLimits (measures m (unsigned q))
+measured m q = taken (size_within in_limits) SizeOutOfLimits (measures m (unsigned q))
 
 abbrev pub laid_out : Means → Question → Result LayoutOutput ItemFault
 laid_out m q = taken layout_in_limits LayoutOutOfLimits (lays_out m (unsigned q))
@@ -84,3 +69,11 @@ ranged (Ok s) = style_or_field s (first_out_of_range s)
 
 abbrev pub styled : Means → ℕ → Result Style ItemFault
 styled m n = ranged (styles_at m n)
+
+-- ---- what a question leaves behind
+
+-- the host is in order and means what it did, and a tally on top has counted this
+pub record Asked {H : Type 0} (host : Ghosts H) (before after : H) (counted : Option Counts → Option Counts) : Type 0 where
+  pub order : host.ordered after
+  pub same : host.meaning after ≡ host.meaning before
+  pub counts : host.tallied after ≡ counted (host.tallied before)

@@ -17,12 +17,12 @@ pub enum ItemFault {
     CandidateOutOfLimits(u32),
 }
 
-impl ItemFault {
-    // 11 where the host did not answer, 12 where a number is out of range.
-    pub fn number(self) -> u8
-        ensures { result ≡ fault_number self }
-    {
-        match self {
+// 11 where the host did not answer, 12 where a number is out of range.
+impl From<ItemFault> for u8 {
+    ghost from_gives = { λ fault n. n ≡ fault_number fault };
+
+    fn from(fault: ItemFault) -> u8 {
+        match fault {
             ItemFault::Host(_) => 11,
             _ => 12,
         }

@@ -3,3 +3,4 @@
 
 pub mod asking;
 pub mod fault;
+mod in_limits;

@@ -1,4 +1,3 @@
 pub mod Raises
 pub mod UsedLaws
-pub mod Few
 pub mod Finals

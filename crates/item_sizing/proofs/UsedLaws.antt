@@ -1,41 +1,57 @@
--- The used sizes of an item are at least their minima, and take at most two measurements.
-use Rattle.std.proofs.Common.{ℕ, ◌+◌, ◌≤◌, Bool, true, false, cond, not, ◌||◌, T, IfOk, Some, None, Ok, Err, Option, Result, arith, lit≤}
-use lib.Ieee.{Float, le, is_nan}
-use Rattle.std.specs.Float.{float_max}
-use Rattle.std.specs.Float.Order.{le_trans, le_right, le_refl}
+-- The used sizes of an item are at least their minima, and take at most two measurements: each side that took one is there.
+use Rattle.std.proofs.Common.{ℕ, ◌+◌, ◌≤◌, Bool, cond, not, ◌&&◌, T, is_some, IfOk, Some, None, Ok, Err, Option, Result, option_map, arith, lit≤}
+use lib.Ieee.{Float, le}
+use Rattle.std.specs.Float.Order.{le_trans, le_right}
 use Rattle.geometry.specs.declared.Size.{Size}
 use Rattle.style.specs.declared.length.AvailableSpace.{AvailableSpace}
 use Rattle.tree.specs.Meaning.{Means}
-use Rattle.item_limits.specs.Limits.{border_length, under}
+use Rattle.tree.specs.declared.question.Question.{Question}
+use Rattle.item_limits.specs.Limits.{border_length, under, least}
 use Rattle.item_limits.specs.declared.limits.Limits.{Limits}
 use Rattle.item_limits.specs.declared.limits.SideLength.{SideLength}
 use Rattle.item_limits.specs.declared.ratio_box.AspectRatio.{AspectRatio}
 use Rattle.item_limits.specs.declared.item_axis.SideSizing.{SideSizing}
 use Rattle.item_limits.specs.declared.item_axis.SideSizing.TheVariants.{Given, Content, Stretched, Filled, Free}
+use Rattle.item_limits.proofs.Held.{above_second}
 use Rattle.item_questions.specs.Asking.{measured}
 use Rattle.item_questions.specs.declared.fault.ItemFault.{ItemFault}
-use Rattle.item_sizing.specs.Found.{Found, then_by}
-use Rattle.item_sizing.specs.UsedSizes.{used_length, width_question, height_question, width_measured, used_width_by, used_width, height_measured, content_height, used_height_by, used_height, sizes_by_axis, box_source, box_measured, ratio_box_by, ratio_box, box_width, box_height, own_height, used_if_any, sizes_by_ratio, used_sizes_by, used_sizes}
-use Rattle.item_sizing.specs.SizingLaws.{Floor}
+use Rattle.item_sizing.specs.Found.{Found, known, by_measuring, made_of, map_found, then_by}
+use Rattle.item_sizing.specs.UsedSizes.{height_question, used_length, content_height, used_width_by, used_width, used_height_by, used_height, sizes_by_axis, given_height_first, box_by_height, box_by_sides, ratio_box, own_height, sizes_of_box, sizes_by_ratio, ratio_of, used_sizes_by, used_sizes}
+use Rattle.item_sizing.specs.LaidOut.{wants_measuring}
 use Rattle.item_sizing.specs.declared.sizing_item.SizingItem.{SizingItem}
 use Rattle.item_sizing.specs.declared.used_sizes.UsedWidth.{UsedWidth}
-use Rattle.item_sizing.specs.declared.used_sizes.BoxSource.{BoxSource}
-use Rattle.item_sizing.specs.declared.used_sizes.BoxSource.TheVariants.{Known, ByWidth, ByHeight, Absent}
 
--- ---- on with what was found
+-- ---- what a find takes
 
-pub then_made : {A B : Type 0} (P : A → Type 0) (Q : B → Type 0) (k l : ℕ) (r : Result A ItemFault) (g : A → Found B)
-    → IfOk r P → ((a : A) → P a → IfOk (g a).reply Q) → IfOk (then_by k l r g).reply Q
-then_made P Q k l (Err f) g p q = tt
-then_made P Q k l (Ok a) g p q = q a p
+-- at most n measurements and l layouts, and P of the measurements and of what is found
+pub record Takes {A : Type 0} (n l : ℕ) (P : ℕ → A → Type 0) (o : Found A) : Type 0 where
+  pub measurements : o.measurements ≤ n
+  pub layouts : o.layouts ≤ l
+  pub makes : IfOk o.reply (P o.measurements)
 
-always : {A : Type 0} (r : Result A ItemFault) → IfOk r (λ _. Unit {0})
-always (Err f) = tt
+pub makes_of : {A B : Type 0} (f : A → B) (P : A → Type 0) (Q : B → Type 0) (r : Result A ItemFault) → IfOk r P → ((a : A) → P a → Q (f a)) → IfOk (made_of f r) Q
+makes_of f P Q (Err e) p q = tt
+makes_of f P Q (Ok a) p q = q a p
+
+pub always : {A : Type 0} (r : Result A ItemFault) → IfOk r (λ _. Unit {0})
+always (Err e) = tt
 always (Ok a) = tt
 
-then_few : {A B : Type 0} (j k l n : ℕ) (r : Result A ItemFault) (g : A → Found B) → k ≤ j → ((a : A) → (g a).measurements ≤ n) → (then_by k l r g).measurements ≤ j + n
-then_few j k l n (Err f) g h q = omega arith
-then_few j k l n (Ok a) g h q = omega (arith, q a)
+-- one measurement, and something made of it
+measuring_takes : {A : Type 0} (P : ℕ → A → Type 0) (f : Size Float → A) (m : Means) (q : Question) → ((z : Size Float) → P 1 (f z)) → Takes 1 0 P (map_found f (by_measuring m q))
+measuring_takes P f m q p = record {
+  measurements = lit≤ tt;
+  layouts = lit≤ tt;
+  makes = makes_of f (λ _. Unit {0}) (P 1) (measured m q) (always (measured m q)) (λ z _. p z);
+}
+
+-- on with what was found, after k measurements and j layouts
+pub then_takes : {A B : Type 0} (n l : ℕ) (P : A → Type 0) (Q : ℕ → B → Type 0) (k j : ℕ) (r : Result A ItemFault) (g : A → Found B)
+    → k ≤ n → j ≤ l → IfOk r P
+    → ((a : A) → P a → Takes n l Q (record { reply = (g a).reply; measurements = k + (g a).measurements; layouts = j + (g a).layouts }))
+    → Takes n l Q (then_by k j r g)
+then_takes n l P Q k j (Err e) g few still p q = record { measurements = few; layouts = still; makes = tt }
+then_takes n l P Q k j (Ok a) g few still p q = q a p
 
 -- ---- a side in its limits
 
@@ -44,136 +60,139 @@ abbrev pub Above : Float → Option Float → Type 0
 Above f None = Unit {0}
 Above f (Some x) = T (le f x)
 
-pub record Over (e : Size Float) (z : Size (Option Float)) : Type 0 where
-  pub width : Above e.width z.width
-  pub height : Above e.height z.height
+-- a side that is settled is at least what is at most its minimum
+abbrev pub Over : Limits → Option Float → Type 0
+Over l o = (f : Float) → T (le f (least l).border) → Above f o
 
-pub most_above : (x y : Float) → T (not (is_nan y)) → T (le y (float_max x y))
-most_above x y q = go (le y x) (is_nan y) (λ t. t) q
-  where
-    go : (b n : Bool) → (T b → T (le y x)) → T (not n) → T (le y (cond (b || n) x y))
-    go true n k h = k tt
-    go false true k h = absurd h
-    go false false k h = le_refl y q
+used_over : (l : Limits) (s : SideLength) → Over l (Some (used_length l s))
+used_over l s f h = le_trans f (least l).border (used_length l s) h (above_second (under l.max s).border (least l).border (le_right f (least l).border h))
 
-above_used : (l : Limits) (f : Float) (s : SideLength) → T (le f l.min.border) → T (le f (used_length l s))
-above_used l f s h = le_trans f l.min.border (used_length l s) h (most_above (under l.max s).border l.min.border (le_right f l.min.border h))
+used_over_if_any : (l : Limits) (o : Option SideLength) → Over l (option_map (used_length l) o)
+used_over_if_any l None f h = tt
+used_over_if_any l (Some s) f h = used_over l s f h
 
-above_if : (l : Limits) (f : Float) (o : Option SideLength) → T (le f l.min.border) → Above f (used_if_any l o)
-above_if l f None h = tt
-above_if l f (Some s) h = above_used l f s h
-
-module _ (m : Means) (i : SizingItem) (e : Size Float) (fl : Floor i e) where
-  -- ---- without a ratio
-
-  Wide : UsedWidth → Type 0
-  Wide w = Above e.width w.width
-
-  High : Option Float → Type 0
-  High h = Above e.height h
-
-  measured_wide : (r : Result (Size Float) ItemFault) → IfOk (width_measured i r).reply Wide
-  unfolding Wide
-  measured_wide (Err f) = tt
-  measured_wide (Ok z) = above_used i.limits.width e.width (border_length i.limits.width.adjustment z.width) fl.width
-
-  plain_wide : (v : SideSizing) → IfOk (used_width_by m i v).reply Wide
-  unfolding Wide
-  plain_wide (Given w) = above_used i.limits.width e.width w fl.width
-  plain_wide (Stretched w) = above_used i.limits.width e.width w fl.width
-  plain_wide (Filled w) = above_used i.limits.width e.width w fl.width
-  plain_wide (Content a) = measured_wide (measured m (width_question i a))
-  plain_wide Free = tt
-
-  measured_high : (r : Result (Size Float) ItemFault) → IfOk (height_measured i r).reply High
-  unfolding High
-  measured_high (Err f) = tt
-  measured_high (Ok z) = above_used i.limits.height e.height (border_length i.limits.height.adjustment z.height) fl.height
-
-  content_high : (u : Option Float) (a : AvailableSpace) (o : Option Float) → IfOk (content_height m i u a o).reply High
-  unfolding High
-  content_high u a (Some h) = above_used i.limits.height e.height (border_length i.limits.height.adjustment h) fl.height
-  content_high u a None = measured_high (measured m (height_question i u a))
-
-  plain_high : (w : UsedWidth) (v : SideSizing) → IfOk (used_height_by m i w v).reply High
-  unfolding High
-  plain_high w (Given h) = above_used i.limits.height e.height h fl.height
-  plain_high w (Stretched h) = above_used i.limits.height e.height h fl.height
-  plain_high w (Filled h) = above_used i.limits.height e.height h fl.height
-  plain_high w (Content a) = content_high w.width a w.height_along
-  plain_high w Free = tt
-
-  plain_over : IfOk (sizes_by_axis m i).reply (Over e)
-  unfolding Wide High
-  plain_over =
-      then_made Wide (Over e) (used_width m i).measurements (used_width m i).layouts (used_width m i).reply _ (plain_wide i.sizing.width) (λ w p.
-      then_made High (Over e) (used_height m i w).measurements (used_height m i w).layouts (used_height m i w).reply _ (plain_high w i.sizing.height) (λ h q.
-      record { width = p; height = q }))
-
-  -- ---- with a ratio: whatever the box is
-
-  ratio_over : (q : Float) → IfOk (sizes_by_ratio m i q).reply (Over e)
-  ratio_over q =
-      let r : AspectRatio = record { ratio = q; limits = i.limits } in
-      then_made (λ _. Unit {0}) (Over e) (ratio_box m i r).measurements (ratio_box m i r).layouts (ratio_box m i r).reply _ (always (ratio_box m i r).reply) (λ b _.
-      record {
-        width = above_if i.limits.width e.width (box_width b) fl.width;
-        height = above_if i.limits.height e.height (own_height i.sizing.height (box_height b)) fl.height;
-      })
-
-  used_sizes_over_by : (o : Option Float) → IfOk (used_sizes_by m i o).reply (Over e)
-  used_sizes_over_by None = plain_over
-  used_sizes_over_by (Some q) = ratio_over q
-
-  pub used_sizes_over : IfOk (used_sizes m i).reply (Over e)
-  used_sizes_over = used_sizes_over_by i.aspect_ratio
+box_width_over : (l : Limits) (o : Option (Size SideLength)) → Over l (option_map (λ z. used_length l z.width) o)
+box_width_over l None f h = tt
+box_width_over l (Some z) f h = used_over l z.width f h
 
 -- ---- how many questions
 
+-- the measurements that a side accounts for
+abbrev pub count : Option Float → ℕ
+count (Some v) = 1
+count None = 0
+
+-- the measurement that is left to the layout
+abbrev pub miss : SizingItem → Size (Option Float) → ℕ
+miss i z = cond (wants_measuring i z) 1 0
+
+miss_count : (o : Bool) (a b : Option Float) → count a + count b + cond (o && not (is_some a && is_some b)) 1 0 ≤ 2
+miss_count o a b = grind arith
+
+miss_one : (b : Bool) → cond b 1 0 ≤ 1
+miss_one b = grind arith
+
+-- a side took no more measurements than it accounts for, and is over its minimum
+pub record Side (l : Limits) (k : ℕ) (o : Option Float) : Type 0 where
+  pub counted : k ≤ count o
+  pub over : Over l o
+
+-- the measurement that is left to the layout is one of two, and both sides are over their minima
+pub record Sides (i : SizingItem) (k : ℕ) (z : Size (Option Float)) : Type 0 where
+  pub left : k + miss i z ≤ 2
+  pub width : Over i.limits.width z.width
+  pub height : Over i.limits.height z.height
+
+used_side : (l : Limits) (s : SideLength) (k : ℕ) → k ≤ 1 → Side l k (Some (used_length l s))
+used_side l s k h = record { counted = h; over = used_over l s }
+
+no_side : (l : Limits) → Side l 0 None
+no_side l = record { counted = lit≤ tt; over = λ f h. tt }
+
+known_takes : {A : Type 0} (P : ℕ → A → Type 0) (a : A) → P 0 a → Takes 1 0 P (known a)
+known_takes P a p = record { measurements = lit≤ tt; layouts = lit≤ tt; makes = p }
+
 module _ (m : Means) (i : SizingItem) where
-  few_measured_width : (r : Result (Size Float) ItemFault) → (width_measured i r).measurements ≤ 1
-  few_measured_width (Err f) = lit≤ tt
-  few_measured_width (Ok z) = lit≤ tt
+  -- ---- without a ratio
 
-  few_width : (v : SideSizing) → (used_width_by m i v).measurements ≤ 1
-  few_width (Given w) = lit≤ tt
-  few_width (Stretched w) = lit≤ tt
-  few_width (Filled w) = lit≤ tt
-  few_width (Content a) = few_measured_width (measured m (width_question i a))
-  few_width Free = lit≤ tt
+  abbrev Width : ℕ → UsedWidth → Type 0
+  Width k w = Side i.limits.width k w.width
 
-  few_measured_height : (r : Result (Size Float) ItemFault) → (height_measured i r).measurements ≤ 1
-  few_measured_height (Err f) = lit≤ tt
-  few_measured_height (Ok z) = lit≤ tt
+  abbrev Height : ℕ → Option Float → Type 0
+  Height k h = Side i.limits.height k h
 
-  few_content_height : (u : Option Float) (a : AvailableSpace) (o : Option Float) → (content_height m i u a o).measurements ≤ 1
-  few_content_height u a (Some h) = lit≤ tt
-  few_content_height u a None = few_measured_height (measured m (height_question i u a))
+  width_takes : (v : SideSizing) → Takes 1 0 Width (used_width_by m i v)
+  width_takes (Given w) = known_takes Width _ (used_side i.limits.width w 0 (lit≤ tt))
+  width_takes (Stretched w) = known_takes Width _ (used_side i.limits.width w 0 (lit≤ tt))
+  width_takes (Filled w) = known_takes Width _ (used_side i.limits.width w 0 (lit≤ tt))
+  width_takes (Content a) = measuring_takes Width _ m _ (λ z. used_side i.limits.width (border_length i.limits.width.adjustment z.width) 1 (lit≤ tt))
+  width_takes Free = known_takes Width _ (no_side i.limits.width)
 
-  few_height : (w : UsedWidth) (v : SideSizing) → (used_height_by m i w v).measurements ≤ 1
-  few_height w (Given h) = lit≤ tt
-  few_height w (Stretched h) = lit≤ tt
-  few_height w (Filled h) = lit≤ tt
-  few_height w (Content a) = few_content_height w.width a w.height_along
-  few_height w Free = lit≤ tt
+  content_takes : (u : Option Float) (a : AvailableSpace) (o : Option Float) → Takes 1 0 Height (content_height m i u a o)
+  content_takes u a (Some h) = known_takes Height _ (used_side i.limits.height (border_length i.limits.height.adjustment h) 0 (lit≤ tt))
+  content_takes u a None = measuring_takes Height _ m (height_question i u a) (λ z. used_side i.limits.height (border_length i.limits.height.adjustment z.height) 1 (lit≤ tt))
 
-  few_measured_box : (f : Size Float → Size SideLength) (r : Result (Size Float) ItemFault) → (box_measured f r).measurements ≤ 1
-  few_measured_box f (Err x) = lit≤ tt
-  few_measured_box f (Ok z) = lit≤ tt
+  height_takes : (w : UsedWidth) (v : SideSizing) → Takes 1 0 Height (used_height_by m i w v)
+  height_takes w (Given h) = known_takes Height _ (used_side i.limits.height h 0 (lit≤ tt))
+  height_takes w (Stretched h) = known_takes Height _ (used_side i.limits.height h 0 (lit≤ tt))
+  height_takes w (Filled h) = known_takes Height _ (used_side i.limits.height h 0 (lit≤ tt))
+  height_takes w (Content a) = content_takes w.width a w.height_along
+  height_takes w Free = known_takes Height _ (no_side i.limits.height)
 
-  pub few_box : (r : AspectRatio) (b : BoxSource) → (ratio_box_by m i r b).measurements ≤ 1
-  few_box r (Known b) = lit≤ tt
-  few_box r (ByWidth a) = few_measured_box _ (measured m (width_question i a))
-  few_box r (ByHeight a) = few_measured_box _ (measured m (height_question i None a))
-  few_box r Absent = lit≤ tt
+  by_axis_takes : Takes 2 0 (Sides i) (sizes_by_axis m i)
+  by_axis_takes =
+      let first : Takes 1 0 Width (used_width m i) = width_takes i.sizing.width in
+      let k : ℕ = (used_width m i).measurements in
+      then_takes 2 0 (Width k) (Sides i) k (used_width m i).layouts (used_width m i).reply _ (omega arith) first.layouts first.makes (λ w p.
+      let second : Takes 1 0 Height (used_height m i w) = height_takes w i.sizing.height in
+      let j : ℕ = (used_height m i w).measurements in
+      record {
+        measurements = omega arith;
+        layouts = omega arith;
+        makes = makes_of _ (Height j) (Sides i (k + j)) (used_height m i w).reply second.makes (λ h q.
+            record { left = omega (arith, p.counted, q.counted, miss_count i.is_out_of_flow w.width h); width = p.over; height = q.over });
+      })
 
-  few_by : (o : Option Float) → (used_sizes_by m i o).measurements ≤ 2
-  few_by None =
-      then_few 1 (used_width m i).measurements (used_width m i).layouts 1 (used_width m i).reply _ (few_width i.sizing.width) (λ w.
-      then_few 1 (used_height m i w).measurements (used_height m i w).layouts 0 (used_height m i w).reply _ (few_height w i.sizing.height) (λ h. lit≤ tt))
-  few_by (Some q) =
-      let r : AspectRatio = record { ratio = q; limits = i.limits } in
-      then_few 1 (ratio_box m i r).measurements (ratio_box m i r).layouts 1 (ratio_box m i r).reply _ (few_box r (box_source i r)) (λ b. lit≤ tt)
+  -- ---- with a ratio: whatever the box is
 
-  pub used_sizes_few : (used_sizes m i).measurements ≤ 2
-  used_sizes_few = few_by i.aspect_ratio
+  abbrev Any : ℕ → Option (Size SideLength) → Type 0
+  Any k b = Unit {0}
+
+  any_takes : (o : Found (Option (Size SideLength))) → o.measurements ≤ 1 → o.layouts ≤ 0 → Takes 1 0 Any o
+  any_takes o k l = record { measurements = k; layouts = l; makes = always o.reply }
+
+  by_height_takes : (r : AspectRatio) (h : SideSizing) → Takes 1 0 Any (box_by_height m i r h)
+  by_height_takes r (Content a) = any_takes _ (lit≤ tt) (lit≤ tt)
+  by_height_takes r _ = any_takes _ (lit≤ tt) (lit≤ tt)
+
+  given_takes : (r : AspectRatio) (h : SideSizing) (o : Found (Option (Size SideLength))) → Takes 1 0 Any o → Takes 1 0 Any (given_height_first i r h o)
+  given_takes r (Given h) o p = any_takes _ (lit≤ tt) (lit≤ tt)
+  given_takes r _ o p = p
+
+  box_takes : (r : AspectRatio) (w h : SideSizing) → Takes 1 0 Any (box_by_sides m i r w h)
+  box_takes r (Content a) h = given_takes r h _ (any_takes _ (lit≤ tt) (lit≤ tt))
+  box_takes r (Filled w) h = given_takes r h _ (any_takes _ (lit≤ tt) (lit≤ tt))
+  box_takes r Free h = by_height_takes r h
+  box_takes r _ h = any_takes _ (lit≤ tt) (lit≤ tt)
+
+  by_ratio_takes : (r : AspectRatio) → Takes 2 0 (Sides i) (sizes_by_ratio m i r)
+  by_ratio_takes r =
+      let first : Takes 1 0 Any (ratio_box m i r) = box_takes r i.sizing.width i.sizing.height in
+      let k : ℕ = (ratio_box m i r).measurements in
+      record {
+        measurements = omega arith;
+        layouts = first.layouts;
+        makes = makes_of (sizes_of_box i) (λ _. Unit {0}) (Sides i k) (ratio_box m i r).reply (always (ratio_box m i r).reply) (λ b _.
+            record {
+              left = omega (arith, miss_one (wants_measuring i (sizes_of_box i b)));
+              width = box_width_over i.limits.width b;
+              height = used_over_if_any i.limits.height (own_height i.sizing.height (option_map (λ z. z.height) b));
+            });
+      }
+
+  used_by_takes : (o : Option Float) → Takes 2 0 (Sides i) (used_sizes_by m i o)
+  used_by_takes None = by_axis_takes
+  used_by_takes (Some q) = by_ratio_takes (ratio_of i q)
+
+  pub used_sizes_take : Takes 2 0 (Sides i) (used_sizes m i)
+  used_sizes_take = used_by_takes i.aspect_ratio

@@ -1,19 +1,18 @@
 -- The final sizes of an item: used where they are settled, else answered by the layout, or out of flow by a measurement, and held in their limits.
-use Rattle.std.specs.Prelude.{ℕ, Bool, cond, not, ◌&&◌, ◌||◌, is_some, Some, None, Ok, Err, Option, Result, Float}
+use Rattle.std.specs.Prelude.{Bool, cond, not, ◌&&◌, is_some, Some, None, Option, Float}
 use Rattle.std.specs.Float.{float_max, float_min}
 use Rattle.std.specs.Option.{unwrap_or}
 use Rattle.geometry.specs.declared.Size.{Size}
+use Rattle.geometry.specs.Shapes.{zip_size}
 use Rattle.style.specs.declared.length.AvailableSpace.TheVariants.{Definite}
 use Rattle.style.specs.declared.modes.RequestedAxis.TheVariants.{Both}
 use Rattle.tree.specs.Meaning.{Means}
-use Rattle.tree.specs.declared.layout.LayoutOutput.{LayoutOutput}
 use Rattle.tree.specs.declared.question.Question.{Question}
+use Rattle.item_limits.specs.Limits.{least}
 use Rattle.item_limits.specs.RatioBoxes.{box_of_width, box_of_height}
 use Rattle.item_limits.specs.declared.limits.SideLength.{SideLength}
 use Rattle.item_limits.specs.declared.ratio_box.AspectRatio.{AspectRatio}
-use Rattle.item_questions.specs.Asking.{measured, laid_out}
-use Rattle.item_questions.specs.declared.fault.ItemFault.{ItemFault}
-use Rattle.item_sizing.specs.Found.{Found, failed, then_found}
+use Rattle.item_sizing.specs.Found.{Found, by_measuring, by_laying_out, map_found, then_found}
 use Rattle.item_sizing.specs.UsedSizes.{question, ratio_of, used_sizes}
 use Rattle.item_sizing.specs.declared.sizing_item.SizingItem.{SizingItem}
 use Rattle.item_sizing.specs.declared.laid_out.LaidOutItem.{LaidOutItem}
@@ -45,36 +44,34 @@ held max min x = float_max (under_max max x) min
 
 abbrev pub answered : SizingItem → Size Float → Size Float
 answered i z = record {
-  width = held (max_width i) i.limits.width.min.border z.width;
-  height = held (max_height i) i.limits.height.min.border z.height;
+  width = held (max_width i) (least i.limits.width).border z.width;
+  height = held (max_height i) (least i.limits.height).border z.height;
 }
 
 -- ---- the layout
 
 -- out of flow, a missing side calls for one measurement of both
 abbrev pub wants_measuring : SizingItem → Size (Option Float) → Bool
-wants_measuring i known = i.is_out_of_flow && (not (is_some known.width) || not (is_some known.height))
+wants_measuring i sides = i.is_out_of_flow && not (is_some sides.width && is_some sides.height)
 
 -- a side that is settled is final
 abbrev pub filled : Size (Option Float) → Size Float → Size Float
-filled known z = record { width = unwrap_or known.width z.width; height = unwrap_or known.height z.height }
+filled = zip_size unwrap_or
 
 abbrev pub both_known : Size Float → Size (Option Float)
 both_known z = record { width = Some z.width; height = Some z.height }
 
-abbrev pub after_layout : ℕ → Question → (Size Float → Size Float) → Result LayoutOutput ItemFault → Found LaidOutItem
-after_layout k q size_of (Err f) = record { reply = Err f; measurements = k; layouts = 1 }
-after_layout k q size_of (Ok l) = record { reply = Ok (record { size = size_of l.size; output = l; question = q }); measurements = k; layouts = 1 }
-
-abbrev pub after_measuring : Means → SizingItem → Result (Size Float) ItemFault → Found LaidOutItem
-after_measuring m i (Err f) = failed 1 f
-after_measuring m i (Ok z) = after_layout 1 (whole_question i (both_known z)) (λ _. answered i z) (laid_out m (whole_question i (both_known z)))
+-- laid out with these sides known, and of this final size
+abbrev pub laid_out_at : Means → SizingItem → Size (Option Float) → (Size Float → Size Float) → Found LaidOutItem
+laid_out_at m i sides size_of =
+    let question : Question = whole_question i sides in
+    map_found (λ l. record { size = size_of l.size; output = l; question = question }) (by_laying_out m question)
 
 abbrev pub laid_out_with : Means → SizingItem → Size (Option Float) → Found LaidOutItem
-laid_out_with m i known =
-    cond (wants_measuring i known)
-    (after_measuring m i (measured m (whole_question i known)))
-    (after_layout 0 (whole_question i known) (λ z. filled known (answered i z)) (laid_out m (whole_question i known)))
+laid_out_with m i sides =
+    cond (wants_measuring i sides)
+    (then_found (by_measuring m (whole_question i sides)) (λ z. laid_out_at m i (both_known z) (λ _. answered i z)))
+    (laid_out_at m i sides (λ z. filled sides (answered i z)))
 
 abbrev pub laid_out_item : Means → SizingItem → Found LaidOutItem
 laid_out_item m i = then_found (used_sizes m i) (laid_out_with m i)

@@ -3,6 +3,7 @@ use Rattle.std.specs.Prelude.{◌≤◌, T, IfOk, Result, Float}
 use Rattle.std.specs.Float.Ieee.{le}
 use Rattle.geometry.specs.declared.Size.{Size}
 use Rattle.tree.specs.Meaning.{Means}
+use Rattle.item_limits.specs.Limits.{least}
 use Rattle.item_questions.specs.declared.fault.ItemFault.{ItemFault}
 use Rattle.item_sizing.specs.LaidOut.{laid_out_item}
 use Rattle.item_sizing.specs.declared.sizing_item.SizingItem.{SizingItem}
@@ -13,10 +14,10 @@ pub record NotBelow (f z : Size Float) : Type 0 where
   pub width : T (le f.width z.width)
   pub height : T (le f.height z.height)
 
--- f is at most the minimum of each side, as padding plus border is
+-- f is at most what the minimum of each side comes to, as padding plus border is
 pub record Floor (i : SizingItem) (f : Size Float) : Type 0 where
-  pub width : T (le f.width i.limits.width.min.border)
-  pub height : T (le f.height i.limits.height.min.border)
+  pub width : T (le f.width (least i.limits.width).border)
+  pub height : T (le f.height (least i.limits.height).border)
 
 pub record Sized (m : Means) (i : SizingItem) (r : Result LaidOutItem ItemFault) : Type 0 where
   pub at_most_two_measurements : (laid_out_item m i).measurements ≤ 2

@@ -1,7 +1,7 @@
 -- The used sizes of an item before it is laid out, and the measurements that they take. A side that is absent is left to the layout.
-use Rattle.std.specs.Prelude.{cond, ◌&&◌, is_some, Some, None, Ok, Err, Option, Result, Float}
+use Rattle.std.specs.Prelude.{cond, ◌&&◌, is_some, Some, None, Option, Float}
 use Rattle.std.specs.Float.Ieee.{eq}
-use Rattle.std.specs.Option.{unwrap_or}
+use Rattle.std.specs.Option.{unwrap_or, option_map}
 use Rattle.geometry.specs.declared.Size.{Size}
 use Rattle.style.specs.declared.length.AvailableSpace.{AvailableSpace}
 use Rattle.style.specs.declared.length.AvailableSpace.TheVariants.{Definite}
@@ -17,13 +17,9 @@ use Rattle.item_limits.specs.declared.limits.SideLength.{SideLength}
 use Rattle.item_limits.specs.declared.ratio_box.AspectRatio.{AspectRatio}
 use Rattle.item_limits.specs.declared.item_axis.SideSizing.{SideSizing}
 use Rattle.item_limits.specs.declared.item_axis.SideSizing.TheVariants.{Given, Content, Stretched, Filled, Free}
-use Rattle.item_questions.specs.Asking.{measured}
-use Rattle.item_questions.specs.declared.fault.ItemFault.{ItemFault}
-use Rattle.item_sizing.specs.Found.{Found, found, failed, then_found}
+use Rattle.item_sizing.specs.Found.{Found, known, by_measuring, map_found, then_found}
 use Rattle.item_sizing.specs.declared.sizing_item.SizingItem.{SizingItem}
 use Rattle.item_sizing.specs.declared.used_sizes.UsedWidth.{UsedWidth}
-use Rattle.item_sizing.specs.declared.used_sizes.BoxSource.{BoxSource}
-use Rattle.item_sizing.specs.declared.used_sizes.BoxSource.TheVariants.{Known, ByWidth, ByHeight, Absent}
 
 -- ---- questions
 
@@ -81,34 +77,26 @@ width_by_size i z = record {
   height_along = cond (is_some (height_along_of i) && eq z.width (measured_length i.limits.width z.width)) (Some z.height) None;
 }
 
-abbrev pub width_measured : SizingItem → Result (Size Float) ItemFault → Found UsedWidth
-width_measured i (Err f) = failed 1 f
-width_measured i (Ok z) = found 1 (width_by_size i z)
-
 abbrev pub used_width_by : Means → SizingItem → SideSizing → Found UsedWidth
-used_width_by m i (Given w) = found 0 (plain_width (Some (used_length i.limits.width w)))
-used_width_by m i (Stretched w) = found 0 (plain_width (Some (used_length i.limits.width w)))
-used_width_by m i (Filled w) = found 0 (plain_width (Some (used_length i.limits.width w)))
-used_width_by m i (Content a) = width_measured i (measured m (width_question i a))
-used_width_by m i Free = found 0 (plain_width None)
+used_width_by m i (Given w) = known (plain_width (Some (used_length i.limits.width w)))
+used_width_by m i (Stretched w) = known (plain_width (Some (used_length i.limits.width w)))
+used_width_by m i (Filled w) = known (plain_width (Some (used_length i.limits.width w)))
+used_width_by m i (Content a) = map_found (width_by_size i) (by_measuring m (width_question i a))
+used_width_by m i Free = known (plain_width None)
 
 abbrev pub used_width : Means → SizingItem → Found UsedWidth
 used_width m i = used_width_by m i i.sizing.width
 
-abbrev pub height_measured : SizingItem → Result (Size Float) ItemFault → Found (Option Float)
-height_measured i (Err f) = failed 1 f
-height_measured i (Ok z) = found 1 (Some (measured_length i.limits.height z.height))
-
 abbrev pub content_height : Means → SizingItem → Option Float → AvailableSpace → Option Float → Found (Option Float)
-content_height m i w a (Some h) = found 0 (Some (measured_length i.limits.height h))
-content_height m i w a None = height_measured i (measured m (height_question i w a))
+content_height m i w a (Some h) = known (Some (measured_length i.limits.height h))
+content_height m i w a None = map_found (λ z. Some (measured_length i.limits.height z.height)) (by_measuring m (height_question i w a))
 
 abbrev pub used_height_by : Means → SizingItem → UsedWidth → SideSizing → Found (Option Float)
-used_height_by m i w (Given h) = found 0 (Some (used_length i.limits.height h))
-used_height_by m i w (Stretched h) = found 0 (Some (used_length i.limits.height h))
-used_height_by m i w (Filled h) = found 0 (Some (used_length i.limits.height h))
+used_height_by m i w (Given h) = known (Some (used_length i.limits.height h))
+used_height_by m i w (Stretched h) = known (Some (used_length i.limits.height h))
+used_height_by m i w (Filled h) = known (Some (used_length i.limits.height h))
 used_height_by m i w (Content a) = content_height m i w.width a w.height_along
-used_height_by m i w Free = found 0 None
+used_height_by m i w Free = known None
 
 abbrev pub used_height : Means → SizingItem → UsedWidth → Found (Option Float)
 used_height m i w = used_height_by m i w i.sizing.height
@@ -116,56 +104,46 @@ used_height m i w = used_height_by m i w i.sizing.height
 abbrev pub sizes_by_axis : Means → SizingItem → Found (Size (Option Float))
 sizes_by_axis m i =
     then_found (used_width m i) (λ w.
-    then_found (used_height m i w) (λ h.
-    found 0 (record { width = w.width; height = h })))
+    map_found (λ h. record { width = w.width; height = h }) (used_height m i w))
 
 -- ---- with an aspect ratio: a box, and then each side within its own limits
 
+abbrev pub ratio_of : SizingItem → Float → AspectRatio
+ratio_of i ratio = record { ratio = ratio; limits = i.limits }
+
 -- a given height goes before what the width would say
-abbrev pub given_height_first : SizingItem → AspectRatio → BoxSource → SideSizing → BoxSource
-given_height_first i r other (Given h) = Known (box_of_height r (clamped i.limits.height h))
-given_height_first i r other (Content a) = other
-given_height_first i r other (Stretched h) = other
-given_height_first i r other (Filled h) = other
-given_height_first i r other Free = other
+abbrev pub given_height_first : SizingItem → AspectRatio → SideSizing → Found (Option (Size SideLength)) → Found (Option (Size SideLength))
+given_height_first i r (Given h) other = known (Some (box_of_height r (clamped i.limits.height h)))
+given_height_first i r (Content a) other = other
+given_height_first i r (Stretched h) other = other
+given_height_first i r (Filled h) other = other
+given_height_first i r Free other = other
 
-abbrev pub box_by_height : SizingItem → AspectRatio → SideSizing → BoxSource
-box_by_height i r (Given h) = Known (box_of_height r (clamped i.limits.height h))
-box_by_height i r (Stretched h) = Known (box_of_height r (clamped i.limits.height h))
-box_by_height i r (Filled h) = Known (limited_box r (box_of_height r h))
-box_by_height i r (Content a) = ByHeight a
-box_by_height i r Free = Absent
+-- a measured side makes a box that is held in the limits of both sides
+abbrev pub box_by_measured_width : Means → SizingItem → AspectRatio → AvailableSpace → Found (Option (Size SideLength))
+box_by_measured_width m i r a =
+    map_found (λ z. Some (limited_box r (box_of_width r (border_length i.limits.width.adjustment z.width)))) (by_measuring m (width_question i a))
 
-abbrev pub box_source_by : SizingItem → AspectRatio → SideSizing → SideSizing → BoxSource
-box_source_by i r (Given w) h = Known (box_of_width r (clamped i.limits.width w))
-box_source_by i r (Stretched w) h = Known (box_of_width r (clamped i.limits.width w))
-box_source_by i r (Content a) h = given_height_first i r (ByWidth a) h
-box_source_by i r (Filled w) h = given_height_first i r (Known (limited_box r (box_of_width r w))) h
-box_source_by i r Free h = box_by_height i r h
+abbrev pub box_by_measured_height : Means → SizingItem → AspectRatio → AvailableSpace → Found (Option (Size SideLength))
+box_by_measured_height m i r a =
+    map_found (λ z. Some (limited_box r (box_of_height r (border_length i.limits.height.adjustment z.height)))) (by_measuring m (height_question i None a))
 
-abbrev pub box_source : SizingItem → AspectRatio → BoxSource
-box_source i r = box_source_by i r i.sizing.width i.sizing.height
+abbrev pub box_by_height : Means → SizingItem → AspectRatio → SideSizing → Found (Option (Size SideLength))
+box_by_height m i r (Given h) = known (Some (box_of_height r (clamped i.limits.height h)))
+box_by_height m i r (Stretched h) = known (Some (box_of_height r (clamped i.limits.height h)))
+box_by_height m i r (Filled h) = known (Some (limited_box r (box_of_height r h)))
+box_by_height m i r (Content a) = box_by_measured_height m i r a
+box_by_height m i r Free = known None
 
-abbrev pub box_measured : (Size Float → Size SideLength) → Result (Size Float) ItemFault → Found (Option (Size SideLength))
-box_measured box_of (Err f) = failed 1 f
-box_measured box_of (Ok z) = found 1 (Some (box_of z))
-
-abbrev pub ratio_box_by : Means → SizingItem → AspectRatio → BoxSource → Found (Option (Size SideLength))
-ratio_box_by m i r (Known b) = found 0 (Some b)
-ratio_box_by m i r (ByWidth a) = box_measured (λ z. limited_box r (box_of_width r (border_length i.limits.width.adjustment z.width))) (measured m (width_question i a))
-ratio_box_by m i r (ByHeight a) = box_measured (λ z. limited_box r (box_of_height r (border_length i.limits.height.adjustment z.height))) (measured m (height_question i None a))
-ratio_box_by m i r Absent = found 0 None
+abbrev pub box_by_sides : Means → SizingItem → AspectRatio → (width height : SideSizing) → Found (Option (Size SideLength))
+box_by_sides m i r (Given w) h = known (Some (box_of_width r (clamped i.limits.width w)))
+box_by_sides m i r (Stretched w) h = known (Some (box_of_width r (clamped i.limits.width w)))
+box_by_sides m i r (Content a) h = given_height_first i r h (box_by_measured_width m i r a)
+box_by_sides m i r (Filled w) h = given_height_first i r h (known (Some (limited_box r (box_of_width r w))))
+box_by_sides m i r Free h = box_by_height m i r h
 
 abbrev pub ratio_box : Means → SizingItem → AspectRatio → Found (Option (Size SideLength))
-ratio_box m i r = ratio_box_by m i r (box_source i r)
-
-abbrev pub box_width : Option (Size SideLength) → Option SideLength
-box_width (Some b) = Some b.width
-box_width None = None
-
-abbrev pub box_height : Option (Size SideLength) → Option SideLength
-box_height (Some b) = Some b.height
-box_height None = None
+ratio_box m i r = box_by_sides m i r i.sizing.width i.sizing.height
 
 -- a given or stretched height, else the box's
 abbrev pub own_height : SideSizing → Option SideLength → Option SideLength
@@ -175,24 +153,19 @@ own_height (Content a) boxed = boxed
 own_height (Filled h) boxed = boxed
 own_height Free boxed = boxed
 
-abbrev pub used_if_any : Limits → Option SideLength → Option Float
-used_if_any l (Some s) = Some (used_length l s)
-used_if_any l None = None
+-- each side of the box within its own limits
+abbrev pub sizes_of_box : SizingItem → Option (Size SideLength) → Size (Option Float)
+sizes_of_box i b = record {
+  width = option_map (λ z. used_length i.limits.width z.width) b;
+  height = option_map (used_length i.limits.height) (own_height i.sizing.height (option_map (λ z. z.height) b));
+}
 
-abbrev pub ratio_of : SizingItem → Float → AspectRatio
-ratio_of i ratio = record { ratio = ratio; limits = i.limits }
-
-abbrev pub sizes_by_ratio : Means → SizingItem → Float → Found (Size (Option Float))
-sizes_by_ratio m i ratio =
-    then_found (ratio_box m i (ratio_of i ratio)) (λ b.
-    found 0 (record {
-      width = used_if_any i.limits.width (box_width b);
-      height = used_if_any i.limits.height (own_height i.sizing.height (box_height b));
-    }))
+abbrev pub sizes_by_ratio : Means → SizingItem → AspectRatio → Found (Size (Option Float))
+sizes_by_ratio m i r = map_found (sizes_of_box i) (ratio_box m i r)
 
 abbrev pub used_sizes_by : Means → SizingItem → Option Float → Found (Size (Option Float))
 used_sizes_by m i None = sizes_by_axis m i
-used_sizes_by m i (Some ratio) = sizes_by_ratio m i ratio
+used_sizes_by m i (Some ratio) = sizes_by_ratio m i (ratio_of i ratio)
 
 abbrev pub used_sizes : Means → SizingItem → Found (Size (Option Float))
 used_sizes m i = used_sizes_by m i i.aspect_ratio

@@ -1,13 +1,12 @@
 // The one layout of an item, and its final sizes.
 ghost use Rattle.std.specs.Prelude.{◌≡◌};
 ghost use Rattle.item_sizing.specs.Found.{Finds};
-ghost use Rattle.item_sizing.specs.LaidOut.{whole_question, max_width, max_height, held, answered, wants_measuring, filled, laid_out_with, laid_out_item};
+ghost use Rattle.item_sizing.specs.LaidOut.{whole_question, max_width, max_height, held, answered, wants_measuring, laid_out_with, laid_out_item};
 ghost use Rattle.item_sizing.specs.SizingLaws.{Sized};
 
 use crate::sizing_item::SizingItem;
 use geometry::Size;
 use item_limits::limits::SideLength;
-use item_limits::ratio_box::AspectRatio;
 use item_questions::asking::{measure, perform_layout};
 use item_questions::fault::ItemFault;
 use number::{f32_max, f32_min};
@@ -28,30 +27,15 @@ pub struct LaidOutItem {
 fn hold(max: Option<SideLength>, min: f32, length: f32) -> f32
     ensures { result ≡ held max min length }
 {
-    match max {
-        Some(max) => f32_max(f32_min(length, max.border), min),
-        None => f32_max(length, min),
-    }
-}
-
-// A side that is settled is final.
-fn fill(known: Size<Option<f32>>, size: Size<f32>) -> Size<f32>
-    ensures { result ≡ filled known size }
-{
-    Size {
-        width: known.width.unwrap_or(size.width),
-        height: known.height.unwrap_or(size.height),
-    }
+    let capped = max.map_or(length, |max| f32_min(length, max.border));
+    f32_max(capped, min)
 }
 
 impl SizingItem {
     fn whole_question(self, known: Size<Option<f32>>) -> Question
         ensures { result ≡ whole_question self known }
     {
-        let space = Size {
-            width: AvailableSpace::Definite(self.space.width),
-            height: AvailableSpace::Definite(self.space.height),
-        };
+        let space = self.space.map(AvailableSpace::Definite);
         self.question(known, space, RequestedAxis::Both)
     }
 
@@ -59,46 +43,39 @@ impl SizingItem {
     fn max_width(self) -> Option<SideLength>
         ensures { result ≡ max_width self }
     {
-        let limits = self.limits;
-        match (limits.width.max, limits.height.max, self.aspect_ratio) {
-            (Some(own), _, _) => Some(own),
-            (None, Some(other), Some(ratio)) => {
-                Some(AspectRatio { ratio, limits }.box_of_height(other).width)
-            }
-            _ => None,
-        }
+        let Size { width, height } = self.limits;
+        let carried = height
+            .max
+            .zip(self.ratio())
+            .map(|(max, ratio)| ratio.box_of_height(max).width);
+        width.max.or(carried)
     }
 
     fn max_height(self) -> Option<SideLength>
         ensures { result ≡ max_height self }
     {
-        let limits = self.limits;
-        match (limits.height.max, limits.width.max, self.aspect_ratio) {
-            (Some(own), _, _) => Some(own),
-            (None, Some(other), Some(ratio)) => {
-                Some(AspectRatio { ratio, limits }.box_of_width(other).height)
-            }
-            _ => None,
-        }
+        let Size { width, height } = self.limits;
+        let carried = width
+            .max
+            .zip(self.ratio())
+            .map(|(max, ratio)| ratio.box_of_width(max).height);
+        height.max.or(carried)
     }
 
     fn answered(self, size: Size<f32>) -> Size<f32>
         ensures { result ≡ answered self size }
     {
+        let Size { width, height } = self.limits;
         Size {
-            width: hold(self.max_width(), self.limits.width.min.border, size.width),
-            height: hold(
-                self.max_height(),
-                self.limits.height.min.border,
-                size.height,
-            ),
+            width: hold(self.max_width(), width.least().border, size.width),
+            height: hold(self.max_height(), height.least().border, size.height),
         }
     }
 
     fn wants_measuring(self, known: Size<Option<f32>>) -> bool
         ensures { result ≡ wants_measuring self known }
     {
-        self.is_out_of_flow && (known.width.is_none() || known.height.is_none())
+        self.is_out_of_flow && !known.both_axis_defined()
     }
 
     fn lay_out_with<H: LayoutPartialTree>(
@@ -107,16 +84,11 @@ impl SizingItem {
         known: Size<Option<f32>>,
     ) -> Result<LaidOutItem, ItemFault>
         requires { H.ordered host.old }
-        ensures finds { Finds (laid_out_with (H.meaning host.old).means self known) result (H.meaning host.old) (H.meaning host.new) (H.tallied host.old) (H.tallied host.new) }
-        ensures order { H.ordered host.new }
+        ensures { Finds H.LayoutPartialTree host.old host.new (laid_out_with (H.meaning host.old).means self known) result }
     {
         if self.wants_measuring(known) {
             let measured = measure(host, self.whole_question(known))?;
-            let both = Size {
-                width: Some(measured.width),
-                height: Some(measured.height),
-            };
-            let question = self.whole_question(both);
+            let question = self.whole_question(measured.map(Some));
             let output = perform_layout(host, question)?;
             Ok(LaidOutItem {
                 size: self.answered(measured),
@@ -127,29 +99,21 @@ impl SizingItem {
             let question = self.whole_question(known);
             let output = perform_layout(host, question)?;
             Ok(LaidOutItem {
-                size: fill(known, self.answered(output.size)),
+                // A side that is settled is final.
+                size: known.unwrap_or(self.answered(output.size)),
                 output,
                 question,
             })
         }
     }
 
-    fn size_and_lay_out<H: LayoutPartialTree>(self, host: &mut H) -> Result<LaidOutItem, ItemFault>
-        requires { H.ordered host.old }
-        ensures finds { Finds (laid_out_item (H.meaning host.old).means self) result (H.meaning host.old) (H.meaning host.new) (H.tallied host.old) (H.tallied host.new) }
-        ensures order { H.ordered host.new }
-    {
-        let known = self.used_sizes(host)?;
-        self.lay_out_with(host, known)
-    }
-
     // Sizes the item and lays it out, with at most two measurements and one layout.
     pub fn lay_out<H: LayoutPartialTree>(self, host: &mut H) -> Result<LaidOutItem, ItemFault>
         requires { H.ordered host.old }
-        ensures finds { Finds (laid_out_item (H.meaning host.old).means self) result (H.meaning host.old) (H.meaning host.new) (H.tallied host.old) (H.tallied host.new) }
-        ensures order { H.ordered host.new }
+        ensures finds { Finds H.LayoutPartialTree host.old host.new (laid_out_item (H.meaning host.old).means self) result }
         ensures law { Sized (H.meaning host.old).means self result }
     {
-        self.size_and_lay_out(host)
+        let known = self.used_sizes(host)?;
+        self.lay_out_with(host, known)
     }
 }

@@ -1,10 +1,12 @@
 // What is known of an item before its sizes are, and the questions that its sizes take.
 ghost use Rattle.std.specs.Prelude.{◌≡◌};
-ghost use Rattle.item_sizing.specs.UsedSizes.{question as question_of, content_space, height_along_of, width_question, height_question};
+ghost use Rattle.std.specs.Option.{option_map};
+ghost use Rattle.item_sizing.specs.UsedSizes.{ratio_of, question as question_of, content_space, height_along_of, width_question, height_question};
 
 use geometry::Size;
 use item_limits::item_axis::SideSizing;
 use item_limits::limits::Limits;
+use item_limits::ratio_box::AspectRatio;
 use style::length::AvailableSpace;
 use style::modes::{RequestedAxis, SizingMode};
 use tree::question::Question;
@@ -23,6 +25,14 @@ pub struct SizingItem {
 }
 
 impl SizingItem {
+    // The aspect ratio, with the limits that its boxes are held in.
+    pub(crate) fn ratio(self) -> Option<AspectRatio>
+        ensures { result ≡ option_map (ratio_of self) self.aspect_ratio }
+    {
+        let limits = self.limits;
+        self.aspect_ratio.map(|ratio| AspectRatio { ratio, limits })
+    }
+
     pub(crate) fn question(
         self,
         known_dimensions: Size<Option<f32>>,
@@ -34,10 +44,7 @@ impl SizingItem {
         Question {
             node: self.node,
             known_dimensions,
-            parent_size: Size {
-                width: Some(self.basis.width),
-                height: Some(self.basis.height),
-            },
+            parent_size: self.basis.map(Some),
             available_space,
             sizing_mode: SizingMode::InherentSize,
             axis,
@@ -57,19 +64,11 @@ impl SizingItem {
     pub(crate) fn width_question(self, space: AvailableSpace) -> Question
         ensures { result ≡ width_question self space }
     {
-        let (height, axis) = match self.height_along() {
-            Some(height) => (height, RequestedAxis::Both),
-            None => (
-                AvailableSpace::Definite(self.space.height),
-                RequestedAxis::Horizontal,
-            ),
-        };
-        let known = Size {
-            width: None,
-            height: None,
-        };
+        let along = self.height_along();
+        let axis = along.map_or(RequestedAxis::Horizontal, |_| RequestedAxis::Both);
+        let height = along.unwrap_or(AvailableSpace::Definite(self.space.height));
         self.question(
-            known,
+            Size::NONE,
             Size {
                 width: space,
                 height,

@@ -1,7 +1,7 @@
 // The used sizes of an item before it is laid out. A side that is absent is left to the layout.
 ghost use Rattle.std.specs.Prelude.{◌≡◌};
 ghost use Rattle.item_sizing.specs.Found.{Finds};
-ghost use Rattle.item_sizing.specs.UsedSizes.{used_length, measured_length, used_width, used_height, sizes_by_axis, box_source, ratio_box, used_if_any, sizes_by_ratio, used_sizes};
+ghost use Rattle.item_sizing.specs.UsedSizes.{used_length, measured_length, used_width, used_height, sizes_by_axis, ratio_box, sizes_of_box, sizes_by_ratio, used_sizes};
 
 use crate::sizing_item::SizingItem;
 use geometry::Size;
@@ -10,7 +10,6 @@ use item_limits::limits::{Limits, SideLength};
 use item_limits::ratio_box::AspectRatio;
 use item_questions::asking::measure;
 use item_questions::fault::ItemFault;
-use style::length::AvailableSpace;
 use tree::traits::LayoutPartialTree;
 
 // A width that is settled, and the height that was measured along with it, if it still holds.
@@ -20,41 +19,22 @@ pub struct UsedWidth {
     height_along: Option<f32>,
 }
 
-// Where the box of an aspect ratio comes from: it is known, or one of its sides is measured.
-#[derive(Clone, Copy)]
-pub enum BoxSource {
-    Known(Size<SideLength>),
-    ByWidth(AvailableSpace),
-    ByHeight(AvailableSpace),
-    Absent,
-}
-
 fn used_length(limits: Limits, length: SideLength) -> f32
     ensures { result ≡ used_length limits length }
 {
-    limits.clamp(length).border
+    limits.fit(length).border
 }
 
 fn measured_length(limits: Limits, length: f32) -> f32
     ensures { result ≡ measured_length limits length }
 {
-    used_length(limits, SideLength::of_border(length, limits.adjustment))
-}
-
-fn used_if_any(limits: Limits, length: Option<SideLength>) -> Option<f32>
-    ensures { result ≡ used_if_any limits length }
-{
-    match length {
-        Some(length) => Some(used_length(limits, length)),
-        None => None,
-    }
+    used_length(limits, limits.border_length(length))
 }
 
 impl SizingItem {
     fn used_width<H: LayoutPartialTree>(self, host: &mut H) -> Result<UsedWidth, ItemFault>
         requires { H.ordered host.old }
-        ensures finds { Finds (used_width (H.meaning host.old).means self) result (H.meaning host.old) (H.meaning host.new) (H.tallied host.old) (H.tallied host.new) }
-        ensures order { H.ordered host.new }
+        ensures { Finds H.LayoutPartialTree host.old host.new (used_width (H.meaning host.old).means self) result }
     {
         let limits = self.limits.width;
         match self.sizing.width {
@@ -68,10 +48,9 @@ impl SizingItem {
                 let size = measure(host, self.width_question(space))?;
                 let width = measured_length(limits, size.width);
                 let still_holds = self.height_along().is_some() && size.width == width;
-                let height_along = if still_holds { Some(size.height) } else { None };
                 Ok(UsedWidth {
                     width: Some(width),
-                    height_along,
+                    height_along: still_holds.then_some(size.height),
                 })
             }
             SideSizing::Free => Ok(UsedWidth {
@@ -87,8 +66,7 @@ impl SizingItem {
         width: UsedWidth,
     ) -> Result<Option<f32>, ItemFault>
         requires { H.ordered host.old }
-        ensures finds { Finds (used_height (H.meaning host.old).means self width) result (H.meaning host.old) (H.meaning host.new) (H.tallied host.old) (H.tallied host.new) }
-        ensures order { H.ordered host.new }
+        ensures { Finds H.LayoutPartialTree host.old host.new (used_height (H.meaning host.old).means self width) result }
     {
         let limits = self.limits.height;
         match self.sizing.height {
@@ -96,6 +74,7 @@ impl SizingItem {
                 Ok(Some(used_length(limits, h)))
             }
             SideSizing::Content(space) => {
+                // A `match`, since the `?` is this function's.
                 let height = match width.height_along {
                     Some(height) => height,
                     None => measure(host, self.height_question(width.width, space))?.height,
@@ -111,8 +90,7 @@ impl SizingItem {
         host: &mut H,
     ) -> Result<Size<Option<f32>>, ItemFault>
         requires { H.ordered host.old }
-        ensures finds { Finds (sizes_by_axis (H.meaning host.old).means self) result (H.meaning host.old) (H.meaning host.new) (H.tallied host.old) (H.tallied host.new) }
-        ensures order { H.ordered host.new }
+        ensures { Finds H.LayoutPartialTree host.old host.new (sizes_by_axis (H.meaning host.old).means self) result }
     {
         let width = self.used_width(host)?;
         let height = self.used_height(host, width)?;
@@ -122,82 +100,67 @@ impl SizingItem {
         })
     }
 
-    // Where the box comes from.
-    fn box_source(self, ratio: AspectRatio) -> BoxSource
-        ensures { result ≡ box_source self ratio }
-    {
-        let limits = self.limits;
-        match (self.sizing.width, self.sizing.height) {
-            (SideSizing::Given(w) | SideSizing::Stretched(w), _) => {
-                BoxSource::Known(ratio.box_of_width(limits.width.clamp(w)))
-            }
-            (SideSizing::Content(_), SideSizing::Given(h)) => {
-                BoxSource::Known(ratio.box_of_height(limits.height.clamp(h)))
-            }
-            (SideSizing::Filled(_), SideSizing::Given(h)) => {
-                BoxSource::Known(ratio.box_of_height(limits.height.clamp(h)))
-            }
-            (SideSizing::Free, SideSizing::Given(h) | SideSizing::Stretched(h)) => {
-                BoxSource::Known(ratio.box_of_height(limits.height.clamp(h)))
-            }
-            (SideSizing::Content(space), _) => BoxSource::ByWidth(space),
-            (SideSizing::Filled(w), _) => BoxSource::Known(ratio.limited(ratio.box_of_width(w))),
-            (SideSizing::Free, SideSizing::Filled(h)) => {
-                BoxSource::Known(ratio.limited(ratio.box_of_height(h)))
-            }
-            (SideSizing::Free, SideSizing::Content(space)) => BoxSource::ByHeight(space),
-            (SideSizing::Free, SideSizing::Free) => BoxSource::Absent,
-        }
-    }
-
+    // The box whose sides stand in the ratio, or none where neither side says what it is.
     fn ratio_box<H: LayoutPartialTree>(
         self,
         host: &mut H,
         ratio: AspectRatio,
     ) -> Result<Option<Size<SideLength>>, ItemFault>
         requires { H.ordered host.old }
-        ensures finds { Finds (ratio_box (H.meaning host.old).means self ratio) result (H.meaning host.old) (H.meaning host.new) (H.tallied host.old) (H.tallied host.new) }
-        ensures order { H.ordered host.new }
+        ensures { Finds H.LayoutPartialTree host.old host.new (ratio_box (H.meaning host.old).means self ratio) result }
     {
-        match self.box_source(ratio) {
-            BoxSource::Known(known) => Ok(Some(known)),
-            BoxSource::ByWidth(space) => {
+        let limits = self.limits;
+        let of_given_height = |h: SideLength| ratio.box_of_height(limits.height.fit(h));
+        // An arm for each width beside a given height: a `|` round patterns that test both sides gets no proof.
+        let sides = match (self.sizing.width, self.sizing.height) {
+            (SideSizing::Given(w) | SideSizing::Stretched(w), _) => {
+                ratio.box_of_width(limits.width.fit(w))
+            }
+            (SideSizing::Content(_), SideSizing::Given(h)) => of_given_height(h),
+            (SideSizing::Filled(_), SideSizing::Given(h)) => of_given_height(h),
+            (SideSizing::Free, SideSizing::Given(h) | SideSizing::Stretched(h)) => {
+                of_given_height(h)
+            }
+            (SideSizing::Content(space), _) => {
                 let size = measure(host, self.width_question(space))?;
-                let width = SideLength::of_border(size.width, self.limits.width.adjustment);
-                Ok(Some(ratio.limited(ratio.box_of_width(width))))
+                ratio.limited(ratio.box_of_width(limits.width.border_length(size.width)))
             }
-            BoxSource::ByHeight(space) => {
+            (SideSizing::Filled(w), _) => ratio.limited(ratio.box_of_width(w)),
+            (SideSizing::Free, SideSizing::Filled(h)) => ratio.limited(ratio.box_of_height(h)),
+            (SideSizing::Free, SideSizing::Content(space)) => {
                 let size = measure(host, self.height_question(None, space))?;
-                let height = SideLength::of_border(size.height, self.limits.height.adjustment);
-                Ok(Some(ratio.limited(ratio.box_of_height(height))))
+                ratio.limited(ratio.box_of_height(limits.height.border_length(size.height)))
             }
-            BoxSource::Absent => Ok(None),
+            (SideSizing::Free, SideSizing::Free) => return Ok(None),
+        };
+        Ok(Some(sides))
+    }
+
+    // Each side of the box within its own limits. A height that is given or stretched goes before the box's.
+    fn sizes_of_box(self, sides: Option<Size<SideLength>>) -> Size<Option<f32>>
+        ensures { result ≡ sizes_of_box self sides }
+    {
+        let limits = self.limits;
+        let height = match self.sizing.height {
+            SideSizing::Given(h) | SideSizing::Stretched(h) => Some(h),
+            _ => sides.map(|sides| sides.height),
+        };
+        Size {
+            width: sides.map(|sides| used_length(limits.width, sides.width)),
+            height: height.map(|height| used_length(limits.height, height)),
         }
     }
 
     fn sizes_by_ratio<H: LayoutPartialTree>(
         self,
         host: &mut H,
-        ratio: f32,
+        ratio: AspectRatio,
     ) -> Result<Size<Option<f32>>, ItemFault>
         requires { H.ordered host.old }
-        ensures finds { Finds (sizes_by_ratio (H.meaning host.old).means self ratio) result (H.meaning host.old) (H.meaning host.new) (H.tallied host.old) (H.tallied host.new) }
-        ensures order { H.ordered host.new }
+        ensures { Finds H.LayoutPartialTree host.old host.new (sizes_by_ratio (H.meaning host.old).means self ratio) result }
     {
-        let limits = self.limits;
-        let boxed = self.ratio_box(host, AspectRatio { ratio, limits })?;
-        let (width, boxed_height) = match boxed {
-            Some(sides) => (Some(sides.width), Some(sides.height)),
-            None => (None, None),
-        };
-        let height = match self.sizing.height {
-            SideSizing::Given(h) | SideSizing::Stretched(h) => Some(h),
-            _ => boxed_height,
-        };
-        Ok(Size {
-            width: used_if_any(limits.width, width),
-            height: used_if_any(limits.height, height),
-        })
+        let sides = self.ratio_box(host, ratio)?;
+        Ok(self.sizes_of_box(sides))
     }
 
     pub(crate) fn used_sizes<H: LayoutPartialTree>(
@@ -205,10 +168,10 @@ impl SizingItem {
         host: &mut H,
     ) -> Result<Size<Option<f32>>, ItemFault>
         requires { H.ordered host.old }
-        ensures finds { Finds (used_sizes (H.meaning host.old).means self) result (H.meaning host.old) (H.meaning host.new) (H.tallied host.old) (H.tallied host.new) }
-        ensures order { H.ordered host.new }
+        ensures { Finds H.LayoutPartialTree host.old host.new (used_sizes (H.meaning host.old).means self) result }
     {
-        match self.aspect_ratio {
+        // A `match`, since both arms borrow the host, and two closures could not.
+        match self.ratio() {
             None => self.sizes_by_axis(host),
             Some(ratio) => self.sizes_by_ratio(host, ratio),
         }

@@ -1,9 +1,7 @@
-use Rattle.std.proofs.Common.{sym, subst}
-use Rattle.item_limits.specs.LimitLaws.{Fits}
+use Rattle.std.proofs.Common.{arith}
+use Rattle.std.proofs.lemmas.Grind.{common_steps}
 use Rattle.item_limits.proofs.Held.{clamped_fits}
 use Rattle.item_limits.proofs.limits.Limits.fit.Goals as goal
 
-pub returns : goal.returns
-returns c =
-    let e = c.clamp.ensures in
-    record { length = e; law = subst (Fits c.args.self c.args.length) (sym e) (clamped_fits c.args.self c.args.length) }
+pub returns-clause-law : goal.returns-clause-law
+returns-clause-law c = clamped_fits c.args.self c.args.length c.at_least.result (grind (arith, common_steps))
