@@ -1,5 +1,8 @@
-use Rattle.page_words.proofs.Decimals.{Left}
+use Rattle.std.proofs.Common.{◌≡◌}
+use Rattle.std.specs.Str.Iter.{bytes_rest}
+use Rattle.page_words.specs.Decimals.{after_all}
+use Rattle.page_words.specs.declared.decimal.Decimal.TheVariants.{Empty}
 use Rattle.page_words.proofs.decimal.read_decimal.Given as goal
 
 abbrev pub invariant-loop-byte : goal.invariant-loop-byte
-invariant-loop-byte l = Left l.byte-items l.byte-index l.read
+invariant-loop-byte l = after_all l.read (bytes_rest l.byte-iterator) ≡ after_all Empty l.word
