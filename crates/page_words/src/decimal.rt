@@ -37,7 +37,10 @@ impl Decimal {
             }
             Decimal::Fraction { value, scale } if scale <= 100_000 => {
                 let value = appended(value, digit)?;
-                Some(Decimal::Fraction { value, scale: scale * 10 })
+                Some(Decimal::Fraction {
+                    value,
+                    scale: scale * 10,
+                })
             }
             Decimal::Fraction { .. } => None,
         }
@@ -77,9 +80,7 @@ impl Decimal {
 pub fn read_decimal(word: &str) -> Option<f32>
     ensures { result ≡ decimal word.now }
 {
-    let mut read = Decimal::Empty;
-    for byte in word.bytes() {
-        read = read.after(byte)?;
-    }
-    read.number()
+    word.bytes()
+        .try_fold(Decimal::Empty, Decimal::after)?
+        .number()
 }
