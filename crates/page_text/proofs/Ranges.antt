@@ -7,13 +7,14 @@ use Rattle.number.specs.Sizes.{Each}
 use Rattle.tracks.specs.Tracks.{base_sizes}
 use Rattle.tracks.specs.declared.grid_track.GridTrack.{GridTrack}
 use Rattle.page_words.specs.WrittenSizes.{size_in_range}
-use Rattle.page_text.specs.Containers.{no_sides, stretched, with_size, with_width, SizeInRange, SidesInRange, Aligns, TextInRange, ContainerInRange}
+use Rattle.page_text.specs.Containers.{no_sides, stretched, with_size, with_width, ContainerInRange}
+use Rattle.page_text.specs.Ranges.{SizeInRange, SidesInRange, Aligns}
 use Rattle.page_text.specs.WrittenTracks.{TrackInRange}
-use Rattle.page_text.specs.Pages.{with_tracks, draft_finished, DraftInRange, PageInRange}
+use Rattle.page_text.specs.Pages.{with_tracks, draft_finished, PageInRange}
 use Rattle.page_text.specs.PageLaws.{AxesInRange}
 use Rattle.page_text.specs.declared.container_text.ContainerText.{ContainerText}
 use Rattle.page_text.specs.declared.read_error.Expected.TheVariants as expected
-use Rattle.page_text.specs.declared.reader.Draft.{Draft}
+use Rattle.page_text.specs.declared.draft.Draft.{Draft}
 use Rattle.page_text.proofs.Places.{found_or}
 
 zero_in_range : T (size_in_range (of_bits binary32 0))
@@ -23,14 +24,14 @@ zero_in_range = tt
 no_sides_in_range : SidesInRange no_sides
 no_sides_in_range = record { left_side = zero_in_range; right_side = zero_in_range; top_side = zero_in_range; bottom_side = zero_in_range }
 
-sized_in_range : (t : ContainerText) (w h : Float) → TextInRange t → SizeInRange w → SizeInRange h → ContainerInRange (with_size t w h)
-sized_in_range t w h k a b = record {
+sized_in_range : (t : ContainerText) (w h : Float) → SizeInRange w → SizeInRange h → ContainerInRange (with_size t w h)
+sized_in_range t w h a b = record {
   content_width = a;
   content_height = b;
-  padding_sides = found_or SidesInRange t.padding no_sides k.padding_said no_sides_in_range;
-  border_sides = found_or SidesInRange t.border no_sides k.border_said no_sides_in_range;
-  columns_align = found_or Aligns t.justify_content stretched k.columns_said tt;
-  rows_align = found_or Aligns t.align_content stretched k.rows_said tt;
+  padding_sides = found_or SidesInRange t.padding no_sides t.padding_said no_sides_in_range;
+  border_sides = found_or SidesInRange t.border no_sides t.border_said no_sides_in_range;
+  columns_align = found_or Aligns t.justify_content stretched t.columns_said tt;
+  rows_align = found_or Aligns t.align_content stretched t.rows_said tt;
 }
 
 -- what stands behind four tests
@@ -45,8 +46,8 @@ after_tests P false false false false e f g h x k = k refl refl
 odd : (n : ℕ) → eqb (n % 2) 0 ≡ false → n % 2 ≡ 1
 odd n h = search rules
 
-pub finished_in_range : (d : Draft) → DraftInRange d → IfOk (draft_finished d) PageInRange
-finished_in_range d k = go d.container.width d.container.height k.container_so_far.width_said k.container_so_far.height_said
+pub finished_in_range : (d : Draft) → IfOk (draft_finished d) PageInRange
+finished_in_range d = go d.container.width d.container.height d.container.width_said d.container.height_said
   where
     go : (w h : Option Float) → IfSome w SizeInRange → IfSome h SizeInRange → IfOk (with_tracks d (with_width d.container w h)) PageInRange
     go None h a b = tt
@@ -55,9 +56,9 @@ finished_in_range d k = go d.container.width d.container.height k.container_so_f
         after_tests PageInRange (eqb (vec_len d.columns) 0) (eqb (vec_len d.rows) 0) (eqb (vec_len d.columns % 2) 0) (eqb (vec_len d.rows % 2) 0)
         expected.Columns expected.Rows expected.OddColumns expected.OddRows
         (record { container = with_size d.container w h; columns = d.columns; rows = d.rows }) (λ c r. record {
-          container_range = sized_in_range d.container w h k.container_so_far a b;
-          columns_range = k.columns_so_far;
-          rows_range = k.rows_so_far;
+          container_range = sized_in_range d.container w h a b;
+          columns_range = d.columns_so_far;
+          rows_range = d.rows_so_far;
           odd_columns = odd (vec_len d.columns) c;
           odd_rows = odd (vec_len d.rows) r;
         })

@@ -1,24 +1,11 @@
--- A word that is a track, plain or in `collapsed(..)`.
-use Rattle.std.proofs.Common.{◌≡◌, ℕ, ◌<◌, true, List, [], ◌∷◌, ◌++◌, length, Some, codes, Option, sym, ap, ◌∙◌, subst, arith}
-use Rattle.std.specs.Option.{option_map}
+-- The words of a text that were read as tracks, one after another.
+use Rattle.std.proofs.Common.{◌≡◌, ℕ, ◌<◌, List, [], ◌∷◌, ◌++◌, length, Some, sym, ap, ◌∙◌, subst, arith}
 use Rattle.std.proofs.ByRecursion.{All-push}
 use Rattle.std.specs.Char.{is_not_whitespace}
 use Rattle.std.specs.Str.{NoCharPasses}
-use Rattle.std.proofs.lemmas.List.{append_assoc, append-nil, append_cancel_left, append_cancel_right, length_push}
+use Rattle.std.proofs.lemmas.List.{append_assoc, append-nil, length_push}
 use Rattle.tracks.specs.declared.grid_track.GridTrack.{GridTrack}
-use Rattle.page_words.specs.WrittenSizes.{size_read}
-use Rattle.page_text.specs.WrittenTracks.{unplaced, TrackRead, TrackInRange, TracksInRange, FirstWord, Words, TracksRead, GoesOn}
-
--- in `collapsed(` and `)`
-pub enclosed_read : (w rest inside : List ℕ) (r : Option GridTrack) → w ≡ codes "collapsed(" ++ rest → rest ≡ inside ++ codes ")"
-    → r ≡ option_map (unplaced true) (size_read inside) → TrackRead w r
-enclosed_read w rest inside r e f h = record {
-  plain = λ no. absurd (no rest e);
-  enclosed = λ inside' e'.
-      h ∙ ap (λ t. option_map (unplaced true) (size_read t))
-      (append_cancel_right inside inside' (codes ")") (sym f ∙ append_cancel_left (codes "collapsed(") rest (inside' ++ codes ")") (sym e ∙ e')));
-  left_open = λ rest' e' no. absurd (no inside (append_cancel_left (codes "collapsed(") rest' rest (sym e' ∙ e) ∙ f));
-}
+use Rattle.page_text.specs.WrittenTracks.{TrackRead, TrackInRange, TracksInRange, FirstWord, Words, TracksRead, GoesOn}
 
 -- one track more
 pub one_more : (ts us : List GridTrack) (t : GridTrack) → TracksInRange ts → length ts < 513 → TrackInRange t → us ≡ ts ++ t ∷ [] → TracksInRange us

@@ -1,3 +1,5 @@
+pub mod Places
+pub mod Ranges
 pub mod Containers
 pub mod WrittenTracks
 pub mod Pages

@@ -1,6 +1,6 @@
 -- A page as it is read: what makes it whole, and the range of its numbers.
 use Rattle.std.specs.Prelude.{◌≡◌, ℕ, ◌%◌, ◌≤◌, cond, List, Ok, Err, vec_items, vec_len, codes, Result, OnOk, ◌==◌, ◌≢◌}
-use Rattle.page_text.specs.Containers.{container_finished, TextInRange, ContainerInRange}
+use Rattle.page_text.specs.Containers.{container_finished, ContainerInRange}
 use Rattle.page_text.specs.WrittenTracks.{TracksInRange, GoesOn}
 use Rattle.page_text.specs.declared.page_description.ContainerDescription.{ContainerDescription}
 use Rattle.page_text.specs.declared.page_description.PageDescription.{PageDescription}
@@ -8,7 +8,7 @@ use Rattle.page_text.specs.declared.read_error.Expected.{Expected}
 use Rattle.page_text.specs.declared.read_error.Expected.TheVariants as expected
 use Rattle.page_text.specs.declared.read_error.ReadFault.{ReadFault}
 use Rattle.page_text.specs.declared.read_error.ReadFault.TheVariants.{Unreadable, OutOfMemory}
-use Rattle.page_text.specs.declared.reader.Draft.{Draft}
+use Rattle.page_text.specs.declared.draft.Draft.{Draft}
 
 -- ---- a statement
 
@@ -37,12 +37,6 @@ abbrev pub draft_finished : Draft → Result PageDescription Expected
 draft_finished d = with_tracks d (container_finished d.container)
 
 -- ---- ranges
-
--- what has been read so far
-pub record DraftInRange (d : Draft) : Type 0 where
-  pub container_so_far : TextInRange d.container
-  pub columns_so_far : TracksInRange (vec_items d.columns)
-  pub rows_so_far : TracksInRange (vec_items d.rows)
 
 -- a page that was read: every number in range, each axis with a gutter, and then a track and a gutter each
 pub record PageInRange (p : PageDescription) : Type 0 where

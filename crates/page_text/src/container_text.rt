@@ -1,15 +1,13 @@
 // The declarations of a container: each property at most once, in any order.
 ghost use Rattle.std.specs.Prelude.{◌≡◌, IfSome};
-ghost use Rattle.page_words.specs.Keywords.{meaning_of, properties};
-ghost use Rattle.page_text.specs.Containers.{filled, filling, container_finished, SidesInRange, Aligns, TextInRange, Takes, Declares};
+ghost use Rattle.std.proofs.Props.{props};
+ghost use Rattle.page_text.specs.Places.{filled, filling};
+ghost use Rattle.page_text.specs.Ranges.{SizeInRange, SidesInRange, Aligns};
 
 use crate::page_description::ContainerDescription;
 use crate::read_error::Expected;
 use geometry::{Rect, Size};
-use page_words::keyword::{
-    Property, content_keyword_named, direction_named, is_positional, overflow_position_named,
-    property_named,
-};
+use page_words::keyword::{Keyword, Property, is_positional};
 use page_words::size::read_size;
 use style::alignment::{AlignContent, AlignContentKeyword, AlignmentSafety, Direction};
 
@@ -23,6 +21,20 @@ pub(crate) struct ContainerText {
     direction: Option<Direction>,
     justify_content: Option<AlignContent>,
     align_content: Option<AlignContent>,
+    ghost width_said: { IfSome width SizeInRange } by { Prim.hlevel props },
+    ghost height_said: { IfSome height SizeInRange } by { Prim.hlevel props },
+    ghost padding_said: { IfSome padding SidesInRange } by { Prim.hlevel props },
+    ghost border_said: { IfSome border SidesInRange } by { Prim.hlevel props },
+    ghost columns_said: { IfSome justify_content Aligns } by { Prim.hlevel props },
+    ghost rows_said: { IfSome align_content Aligns } by { Prim.hlevel props },
+}
+
+// The size that a word is, or the side that it would equal where there is none.
+fn read_side(word: Option<&str>, other: f32) -> Option<f32>
+    requires { SizeInRange other }
+    ensures { IfSome result SizeInRange }
+{
+    word.map_or(Some(other), read_size)
 }
 
 // One to four numbers as CSS reads them: all sides; top and bottom, left and right; top, left and right, bottom; top, right, bottom, left.
@@ -31,27 +43,15 @@ fn read_sides(value: &str) -> Option<Rect<f32>>
 {
     let mut words = value.split_whitespace();
     let top = read_size(words.next()?)?;
-    let right = match words.next() {
-        Some(word) => read_size(word)?,
-        None => top,
-    };
-    let bottom = match words.next() {
-        Some(word) => read_size(word)?,
-        None => top,
-    };
-    let left = match words.next() {
-        Some(word) => read_size(word)?,
-        None => right,
-    };
-    match words.next() {
-        Some(_) => None,
-        None => Some(Rect {
-            left,
-            right,
-            top,
-            bottom,
-        }),
-    }
+    let right = read_side(words.next(), top)?;
+    let bottom = read_side(words.next(), top)?;
+    let left = read_side(words.next(), right)?;
+    words.next().is_none().then_some(Rect {
+        left,
+        right,
+        top,
+        bottom,
+    })
 }
 
 // A keyword, with an overflow position before it where that is allowed. `normal` says nothing of how tracks are aligned.
@@ -59,28 +59,19 @@ fn read_track_alignment(value: &str) -> Option<AlignContent>
     ensures { IfSome result Aligns }
 {
     let mut words = value.split_whitespace();
-    let first = words.next()?;
-    let second = words.next();
-    if words.next().is_some() {
-        return None;
-    }
-    match second {
-        None => match content_keyword_named(first)? {
+    match (words.next()?, words.next(), words.next()) {
+        (keyword, None, _) => match AlignContentKeyword::named(keyword)? {
             AlignContentKeyword::Normal => None,
             keyword => Some(AlignContent {
                 keyword,
                 safety: AlignmentSafety::Default,
             }),
         },
-        Some(word) => {
-            let safety = overflow_position_named(first)?;
-            let keyword = content_keyword_named(word)?;
-            if is_positional(keyword) {
-                Some(AlignContent { keyword, safety })
-            } else {
-                None
-            }
-        }
+        (safety, Some(keyword), None) => Some(AlignContent {
+            safety: AlignmentSafety::named(safety)?,
+            keyword: AlignContentKeyword::named(keyword).filter(|keyword| is_positional(*keyword))?,
+        }),
+        (_, Some(_), Some(_)) => None,
     }
 }
 
@@ -89,19 +80,18 @@ fn fill<T: Drop>(place: &mut Option<T>, read: Option<T>, expected: Expected) -> 
     ensures place { place.new ≡ filled place.old read }
     ensures answer { result ≡ filling place.old read expected }
 {
-    match read {
-        None => Err(expected),
-        Some(value) => {
-            if place.is_some() {
-                return Err(Expected::SecondTime);
-            }
-            *place = Some(value);
-            Ok(())
-        }
+    let value = read.ok_or(expected)?;
+    if place.is_some() {
+        return Err(Expected::SecondTime);
     }
+    *place = Some(value);
+    Ok(())
 }
 
 impl ContainerText {
+    ghost use Rattle.page_words.specs.Keywords.{meaning_of, properties};
+    ghost use Rattle.page_text.specs.Containers.{container_finished, Takes, Declares};
+
     pub(crate) const EMPTY: ContainerText = ContainerText {
         width: None,
         height: None,
@@ -123,7 +113,7 @@ impl ContainerText {
             Property::Border => fill(&mut self.border, read_sides(value), Expected::Sides),
             Property::Direction => fill(
                 &mut self.direction,
-                direction_named(value),
+                Direction::named(value),
                 Expected::Direction,
             ),
             Property::JustifyContent => fill(
@@ -141,35 +131,22 @@ impl ContainerText {
 
     // Takes one declaration, `property: value`.
     pub(crate) fn declare(&mut self, property: &str, value: &str) -> Result<(), Expected>
-        ensures taken { Declares (meaning_of property.now properties) value.now self.old self.new result }
-        ensures range { TextInRange self.old → TextInRange self.new }
+        ensures { Declares (meaning_of property.now properties) value.now self.old self.new result }
     {
-        match property_named(property) {
-            Some(named) => self.take(named, value),
-            None => Err(Expected::Property),
-        }
+        let named = Property::named(property).ok_or(Expected::Property)?;
+        self.take(named, value)
     }
 
     // The container, once its size is known. What was not said is CSS's initial value; `normal` behaves as `stretch`.
     pub(crate) fn finish(self) -> Result<ContainerDescription, Expected>
         ensures { result ≡ container_finished self }
     {
-        let Some(width) = self.width else {
-            return Err(Expected::Width);
-        };
-        let Some(height) = self.height else {
-            return Err(Expected::Height);
-        };
-        let none = Rect {
-            left: 0.0,
-            right: 0.0,
-            top: 0.0,
-            bottom: 0.0,
-        };
+        let width = self.width.ok_or(Expected::Width)?;
+        let height = self.height.ok_or(Expected::Height)?;
         Ok(ContainerDescription {
             content_size: Size { width, height },
-            padding: self.padding.unwrap_or(none),
-            border: self.border.unwrap_or(none),
+            padding: self.padding.unwrap_or(Rect::ZERO),
+            border: self.border.unwrap_or(Rect::ZERO),
             direction: self.direction.unwrap_or(Direction::Ltr),
             justify_content: self.justify_content.unwrap_or(AlignContent::STRETCH),
             align_content: self.align_content.unwrap_or(AlignContent::STRETCH),

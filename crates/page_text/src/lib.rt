@@ -3,8 +3,10 @@
 
 pub mod axis_alignment;
 mod container_text;
+mod draft;
 pub mod laws;
 pub mod page_description;
 pub mod read_error;
 pub mod reader;
+mod source_text;
 mod track_text;

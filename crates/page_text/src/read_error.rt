@@ -27,9 +27,9 @@ pub enum Expected {
     Rows,
 }
 
-impl Expected {
-    fn words(self) -> &'static str {
-        match self {
+impl fmt::Display for Expected {
+    fn fmt<W: fmt::Write>(&self, f: &mut fmt::Formatter<W>) -> fmt::Result {
+        let words = match self {
             Expected::Utf8 => "text in UTF-8",
             Expected::Statement => "container, columns or rows",
             Expected::Declaration => "a declaration, as width: 640",
@@ -53,33 +53,38 @@ impl Expected {
             Expected::Height => "the height of the container",
             Expected::Columns => "columns",
             Expected::Rows => "rows",
-        }
+        };
+        f.write_str(words)
     }
 }
 
-impl fmt::Display for Expected {
-    fn fmt<W: fmt::Write>(&self, f: &mut fmt::Formatter<W>) -> fmt::Result {
-        f.write_str(self.words())
-    }
-}
-
-// One line of the description, counted from 1, and the words there that do not fit.
+// One line of the description, counted from 1, and the words there that do not fit, if there are any.
 #[derive(Clone, Copy)]
 pub struct ReadError<'a> {
     pub line: usize,
     pub expected: Expected,
-    pub found: &'a str,
+    pub found: Option<&'a str>,
+}
+
+impl<'a> ReadError<'a> {
+    pub(crate) fn new(line: usize, expected: Expected, found: Option<&'a str>) -> ReadError<'a>
+        ensures { result.line ≡ line }
+    {
+        ReadError {
+            line,
+            expected,
+            found,
+        }
+    }
 }
 
 impl<'a> fmt::Display for ReadError<'a> {
     fn fmt<W: fmt::Write>(&self, f: &mut fmt::Formatter<W>) -> fmt::Result {
         let line = self.line;
         let expected = self.expected;
-        let found = self.found;
-        if found.is_empty() {
-            write!(f, "line {line}: expected {expected}")
-        } else {
-            write!(f, "line {line}: expected {expected}, found {found:?}")
+        match self.found {
+            Some(found) => write!(f, "line {line}: expected {expected}, found {found:?}"),
+            None => write!(f, "line {line}: expected {expected}"),
         }
     }
 }

@@ -26,12 +26,8 @@ pub(crate) fn read_track(word: &str) -> Option<GridTrack>
     match word.strip_prefix("collapsed(") {
         Some(rest) => {
             let inside = rest.strip_suffix(")")?;
-            let base_size = read_size(inside)?;
-            Some(unplaced(true, base_size))
+            read_size(inside).map(|size| unplaced(true, size))
         }
-        None => {
-            let base_size = read_size(word)?;
-            Some(unplaced(false, base_size))
-        }
+        None => read_size(word).map(|size| unplaced(false, size)),
     }
 }

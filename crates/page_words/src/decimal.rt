@@ -1,47 +1,58 @@
 // A number as it is written in a page description: digits, and perhaps a point and more digits.
 ghost use Rattle.std.specs.Prelude.{◌≡◌};
-ghost use Rattle.page_words.specs.Decimals.{with_digit, with_point, after, number_read, decimal};
+ghost use Rattle.page_words.specs.Decimals.{appended, with_digit, with_point, after, quotient, number_read, decimal};
 
-// What has been read: the digits as one whole number, the power of ten of those after the point, and whether a digit came last or is owed.
+// What has been read: nothing, digits, digits and a point, or digits on both sides of a point.
 #[derive(Clone, Copy)]
-struct Decimal {
-    value: u32,
-    scale: u32,
-    point: bool,
-    some: bool,
+enum Decimal {
+    Empty,
+    Whole(u32),
+    Point(u32),
+    // All digits as one whole number, and the power of ten of those after the point.
+    Fraction { value: u32, scale: u32 },
+}
+
+fn appended(value: u32, digit: u8) -> Option<u32>
+    ensures { result ≡ appended value digit }
+{
+    (value <= 999_999).then(|| value * 10 + u32::from(digit))
+}
+
+fn quotient(value: u32, scale: u32) -> f32
+    ensures { result ≡ quotient value scale }
+{
+    std::num::nearest_u64_to_f32(u64::from(value)) / std::num::nearest_u64_to_f32(u64::from(scale))
 }
 
 impl Decimal {
     fn with_digit(self, digit: u8) -> Option<Decimal>
         ensures { result ≡ with_digit self digit }
     {
-        if self.value > 999_999 || self.point && self.scale > 100_000 {
-            return None;
+        match self {
+            Decimal::Empty => Some(Decimal::Whole(u32::from(digit))),
+            Decimal::Whole(value) => appended(value, digit).map(Decimal::Whole),
+            Decimal::Point(value) => {
+                let value = appended(value, digit)?;
+                Some(Decimal::Fraction { value, scale: 10 })
+            }
+            Decimal::Fraction { value, scale } if scale <= 100_000 => {
+                let value = appended(value, digit)?;
+                Some(Decimal::Fraction {
+                    value,
+                    scale: scale * 10,
+                })
+            }
+            Decimal::Fraction { .. } => None,
         }
-        Some(Decimal {
-            value: self.value * 10 + u32::from(digit),
-            scale: if self.point {
-                self.scale * 10
-            } else {
-                self.scale
-            },
-            point: self.point,
-            some: true,
-        })
     }
 
     fn with_point(self) -> Option<Decimal>
         ensures { result ≡ with_point self }
     {
-        if self.point || !self.some {
-            return None;
+        match self {
+            Decimal::Whole(value) => Some(Decimal::Point(value)),
+            Decimal::Empty | Decimal::Point(_) | Decimal::Fraction { .. } => None,
         }
-        Some(Decimal {
-            value: self.value,
-            scale: self.scale,
-            point: true,
-            some: false,
-        })
     }
 
     fn after(self, byte: u8) -> Option<Decimal>
@@ -57,13 +68,11 @@ impl Decimal {
     fn number(self) -> Option<f32>
         ensures { result ≡ number_read self }
     {
-        if !self.some {
-            return None;
+        match self {
+            Decimal::Whole(value) => Some(quotient(value, 1)),
+            Decimal::Fraction { value, scale } => Some(quotient(value, scale)),
+            Decimal::Empty | Decimal::Point(_) => None,
         }
-        Some(
-            std::num::nearest_u64_to_f32(u64::from(self.value))
-                / std::num::nearest_u64_to_f32(u64::from(self.scale)),
-        )
     }
 }
 
@@ -71,17 +80,7 @@ impl Decimal {
 pub fn read_decimal(word: &str) -> Option<f32>
     ensures { result ≡ decimal word.now }
 {
-    let mut read = Decimal {
-        value: 0,
-        scale: 1,
-        point: false,
-        some: false,
-    };
-    for byte in word.as_bytes() {
-        let Some(next) = read.after(*byte) else {
-            return None;
-        };
-        read = next;
-    }
-    read.number()
+    word.bytes()
+        .try_fold(Decimal::Empty, Decimal::after)?
+        .number()
 }

@@ -16,6 +16,5 @@ pub fn read_size(word: &str) -> Option<f32>
     ensures value { result ≡ size_read word.now }
     ensures range { IfSome result (λ x. T (size_in_range x)) }
 {
-    let x = read_decimal(word)?;
-    if is_size(x) { Some(x) } else { None }
+    read_decimal(word).filter(|x| is_size(*x))
 }

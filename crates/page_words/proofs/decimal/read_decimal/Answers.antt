@@ -1,18 +1,10 @@
-use Rattle.std.proofs.Common.{sym, ap, ◌∙◌}
-use Rattle.page_words.specs.Decimals.{decimal}
-use Rattle.page_words.proofs.Decimals.{goes_on, stops, ends}
+use Rattle.std.proofs.Common.{rules}
+use Rattle.page_words.proofs.Folds.{folded}
 use Rattle.page_words.proofs.decimal.read_decimal.Goals as goal
 
-pub returns-in_default : goal.returns-in_default
-returns-in_default c =
-    stops c.as_bytes-byte-items.result.now c.loop-byte.byte-index c.loop-byte.read c.loop-byte-test.true (sym c.after.ensures ∙ c.in_default.is) c.loop-byte.invariant
-    ∙ ap decimal c.as_bytes-byte-items.ensures.value
-
-pub loop-byte-preserved : goal.loop-byte-preserved
-loop-byte-preserved c =
-    goes_on c.as_bytes-byte-items.result.now c.loop-byte.byte-index c.loop-byte.read c.in-Some.next c.loop-byte-test.true (sym c.after.ensures ∙ c.in-Some.is) c.loop-byte.invariant
+pub returns-in_err-try_fold : goal.returns-in_err-try_fold
+returns-in_err-try_fold c =
+    let read = folded _ _ (λ f h d b v k. search rules) _ _ _ _ _ c.bytes.ensures.rest c.try_fold.ensures.ran in search rules
 
 pub returns : goal.returns
-returns c =
-    c.number.ensures ∙ ends c.as_bytes-byte-items.result.now c.loop-byte.byte-index c.loop-byte.read c.loop-byte-test.false c.loop-byte.invariant
-    ∙ ap decimal c.as_bytes-byte-items.ensures.value
+returns c = let read = folded _ _ (λ f h d b v k. search rules) _ _ _ _ _ c.bytes.ensures.rest c.try_fold.ensures.ran in search rules
