@@ -1,9 +1,10 @@
 // The alignment container of an item, along one axis.
 ghost use Rattle.std.specs.Prelude.{◌≡◌};
-ghost use Rattle.item_placing.specs.Blocks.{area_size, block_within, direction_of, insets_of, block_of, length_of};
+ghost use Rattle.item_placing.specs.Blocks.{area_size, block_within, insets_of, block_of, length_of};
 
 use crate::area_item::AreaItem;
-use geometry::{AbsoluteAxis, Line};
+use crate::direction::flow_relative;
+use geometry::Line;
 use number::f32_max;
 use style::alignment::Direction;
 
@@ -24,33 +25,22 @@ pub(crate) fn length_of(block: Line<f32>) -> f32
 fn block_within(size: f32, inset: Line<Option<f32>>, direction: Direction) -> Line<f32>
     ensures { result ≡ block_within size inset direction }
 {
-    let start = inset.start.unwrap_or(0.0);
-    let end = inset.end.map_or(size, |inset| size - inset);
-    if inset.both_set() && end < start {
-        let edge = match direction {
-            Direction::Ltr => start,
-            Direction::Rtl => end,
-        };
+    let block = Line {
+        start: inset.start.unwrap_or(0.0),
+        end: inset.end.map_or(size, |inset| size - inset),
+    };
+    if inset.both_set() && block.end < block.start {
+        let edge = flow_relative(block, direction).start;
         Line {
             start: edge,
             end: edge,
         }
     } else {
-        Line { start, end }
+        block
     }
 }
 
 impl AreaItem {
-    // The way in which the axis runs: vertically always onward from the top.
-    pub(crate) fn axis_direction(self) -> Direction
-        ensures { result ≡ direction_of self }
-    {
-        match self.axis {
-            AbsoluteAxis::Horizontal => self.direction,
-            AbsoluteAxis::Vertical => Direction::Ltr,
-        }
-    }
-
     // The insets that bound the block: in flow there are none.
     pub(crate) fn insets(self) -> Line<Option<f32>>
         ensures { result ≡ insets_of self }

@@ -2,6 +2,8 @@
 ghost use Rattle.std.specs.Prelude.{◌≡◌};
 ghost use Rattle.item_placing.specs.Edges.{aligned_edge, overflow_position, keyword_on_overflow};
 
+use crate::direction::flow_relative;
+use geometry::Line;
 use style::alignment::{AlignItems, AlignItemsKeyword, AlignmentSafety, Direction};
 
 // A physical edge of the alignment container, or the middle between the two.
@@ -16,17 +18,16 @@ pub enum Edge {
 pub(crate) fn aligned_edge(keyword: AlignItemsKeyword, direction: Direction) -> Edge
     ensures { result ≡ aligned_edge keyword direction }
 {
+    let physical = Line {
+        start: Edge::First,
+        end: Edge::Last,
+    };
+    let edges = flow_relative(physical, direction);
     match keyword {
         AlignItemsKeyword::Center => Edge::Middle,
         AlignItemsKeyword::End | AlignItemsKeyword::FlexEnd | AlignItemsKeyword::SelfEnd =>
-            match direction {
-                Direction::Ltr => Edge::Last,
-                Direction::Rtl => Edge::First,
-            },
-        _ => match direction {
-            Direction::Ltr => Edge::First,
-            Direction::Rtl => Edge::Last,
-        },
+            edges.end,
+        _ => edges.start,
     }
 }
 

@@ -4,9 +4,9 @@ ghost use Rattle.item_placing.specs.Margins.{set_margins, set_size, auto_space, 
 
 use crate::area_item::AreaItem;
 use crate::block::length_of;
+use crate::direction::flow_relative;
 use geometry::{AbsoluteAxis, Line};
 use number::f32_max;
-use style::alignment::Direction;
 
 impl AreaItem {
     // The margins that are set, an automatic one as 0; the baseline shim comes on top of the start.
@@ -43,15 +43,14 @@ impl AreaItem {
     fn two_auto_margins(self, space: f32) -> Line<f32>
         ensures { result ≡ two_auto_margins space self.axis self.direction }
     {
-        match (self.axis, self.direction) {
-            (AbsoluteAxis::Horizontal, Direction::Ltr) if space < 0.0 => Line {
-                start: 0.0,
-                end: space,
-            },
-            (AbsoluteAxis::Horizontal, Direction::Rtl) if space < 0.0 => Line {
-                start: space,
-                end: 0.0,
-            },
+        match self.axis {
+            AbsoluteAxis::Horizontal if space < 0.0 => {
+                let at_line_end = Line {
+                    start: 0.0,
+                    end: space,
+                };
+                flow_relative(at_line_end, self.direction)
+            }
             _ => Line {
                 start: space / 2.0,
                 end: space / 2.0,
