@@ -1,5 +1,5 @@
 -- The first of a list that fails a test: under other names, and what it says of the whole list.
-use Rattle.std.proofs.Common.{◌≡◌, ℕ, Bool, true, false, not, cond, T, List, [], ◌∷◌, ◌++◌, map, Some, None, Option, refl, ap, arith}
+use Rattle.std.proofs.Common.{◌≡◌, Bool, true, false, not, cond, T, List, [], ◌∷◌, map, Some, None, refl, ap, arith}
 use Rattle.std.specs.List.{All}
 use Rattle.std.specs.Option.{option_map}
 use Rattle.std.proofs.lemmas.List.Elements.{All-nil, All-cons, All-head, All-tail}
@@ -8,32 +8,24 @@ use Rattle.style.specs.FirstFailing.{first_failing, FailsFirst}
 pub renamed : {X Y : Type 0} (passes : Y → Bool) (f : X → Y) (xs : List X)
     → first_failing passes (map f xs) ≡ option_map f (first_failing (λ x. passes (f x)) xs)
 renamed passes f [] = refl
-renamed passes f (x ∷ xs) =
-    elim (passes (f x)) as (λ b. cond (not b) (Some (f x)) (first_failing passes (map f xs)) ≡ option_map f (cond (not b) (Some x) (first_failing (λ x. passes (f x)) xs))) [
-      | true ↦ renamed passes f xs
-      | false ↦ refl
-    ]
+renamed passes f (x ∷ xs) = let h = renamed passes f xs in grind arith
 
-some_not_none : {X : Type 0} (x : X) → Some x ≡ None → ⊥
-some_not_none x e = let z : ◌≡◌ {A = ℕ} 0 1 = cc in omega arith
+passes_when : {X : Type 0} (passes : X → Bool) (x : X) → passes x ≡ true → T (passes x)
+passes_when passes x e = rw e tt
 
 pub none_fails : {X : Type 0} (passes : X → Bool) (xs : List X) → first_failing passes xs ≡ None → All (λ x. T (passes x)) xs
 none_fails passes [] e = All-nil (λ x. T (passes x))
-none_fails passes (x ∷ xs) e = at_head (passes x) refl (none_fails passes xs) e
-  where
-    at_head : (b : Bool) → passes x ≡ b → (first_failing passes xs ≡ None → All (λ y. T (passes y)) xs)
-        → cond (not b) (Some x) (first_failing passes xs) ≡ None → All (λ y. T (passes y)) (x ∷ xs)
-    at_head true p rest h = All-cons (λ y. T (passes y)) x xs (rw p tt) (rest h)
-    at_head false p rest h = absurd (some_not_none x h)
+none_fails passes (x ∷ xs) e =
+    let here : passes x ≡ true = grind arith in
+    let rest : first_failing passes xs ≡ None = grind arith in
+    All-cons (λ y. T (passes y)) x xs (passes_when passes x here) (none_fails passes xs rest)
 
 pub all_pass : {X : Type 0} (passes : X → Bool) (xs : List X) → All (λ x. T (passes x)) xs → first_failing passes xs ≡ None
 all_pass passes [] h = refl
 all_pass passes (x ∷ xs) h =
-    at_head (passes x) (All-head (λ y. T (passes y)) x xs h) (all_pass passes xs (All-tail (λ y. T (passes y)) x xs h))
-  where
-    at_head : (b : Bool) → T b → first_failing passes xs ≡ None → cond (not b) (Some x) (first_failing passes xs) ≡ None
-    at_head true t rest = rest
-    at_head false t rest = absurd t
+    let here = All-head (λ y. T (passes y)) x xs h in
+    let rest = all_pass passes xs (All-tail (λ y. T (passes y)) x xs h) in
+    grind arith
 
 -- what holds of a list holds with one more that passes in front
 one_more : {X : Type 0} (passes : X → Bool) (x y : X) (xs : List X) → T (passes x) → FailsFirst passes xs y → FailsFirst passes (x ∷ xs) y
@@ -47,7 +39,7 @@ one_more passes x y xs t h =
     }
 
 pub named_first : {X : Type 0} (passes : X → Bool) (xs : List X) (y : X) → first_failing passes xs ≡ Some y → FailsFirst passes xs y
-named_first passes [] y e = let z : ◌≡◌ {A = ℕ} 0 1 = cc in absurd (omega arith)
+named_first passes [] y e = cc
 named_first passes (x ∷ xs) y e = at_head (passes x) refl (named_first passes xs y) e
   where
     at_head : (b : Bool) → passes x ≡ b → (first_failing passes xs ≡ Some y → FailsFirst passes xs y)

@@ -1,4 +1,4 @@
-use Rattle.std.proofs.Common.{rules, tests, ◌≡◌, Bool, not, sym, ap, ◌∙◌}
+use Rattle.std.proofs.Common.{rules, tests, Bool, not, sym, ap, ◌∙◌}
 use Rattle.std.specs.List.{find}
 use Rattle.std.specs.Array.Iter.{array_steps, array_into_iter_items}
 use Rattle.std.proofs.lemmas.Iterator.Adapters.{option_map_id}
