@@ -1,5 +1,5 @@
 -- The rules of the layers: what a measurement by way of a cache leaves behind, and what a tally has counted.
-use Rattle.std.specs.Prelude.{◌≡◌, true, cond, List, is_some, Some, Ok, vec_items, Option, Result, Float}
+use Rattle.std.specs.Prelude.{◌≡◌, true, cond, List, is_some, Some, Ok, Option, Result, Float}
 use Rattle.geometry.specs.declared.Size.{Size}
 use Rattle.tree.specs.declared.question.Question.{Question}
 use Rattle.tree.specs.declared.fault.HostFault.{HostFault}

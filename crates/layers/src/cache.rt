@@ -62,11 +62,9 @@ impl<H: LayoutPartialTree> LayoutPartialTree for Cache<H> {
         if let Some(size) = self.memory.recall(question) {
             return Ok(size);
         }
-        let answer = self.below.measure(question);
-        if let Ok(size) = answer {
-            self.memory.remember(question, size);
-        }
-        answer
+        let size = self.below.measure(question)?;
+        self.memory.remember(question, size);
+        Ok(size)
     }
 
     fn perform_layout(&mut self, question: Question) -> Result<LayoutOutput, HostFault>

@@ -8,9 +8,12 @@ ghost use Rattle.text_host.specs.Computed.{InOrder as TextInOrder};
 use anyhow::anyhow;
 use geometry::Size;
 use layers::cache::Cache;
+use layers::pile::tally_over_cache;
 use layers::tally::Tally;
 use recorded_host::host::RecordedHost;
 use recorded_host::records::{MeasurementRecord, NodeRecord};
+use std::alloc::AllocFailed;
+use std::fmt;
 use std::time::Instant;
 use style::length::AvailableSpace;
 use style::modes::{RequestedAxis, SizingMode};
@@ -24,14 +27,10 @@ use tree::traits::LayoutPartialTree;
 const ROUNDS: u32 = 100000;
 
 fn about(node: u64, width: f32) -> Question {
-    let absent = Size {
-        width: None,
-        height: None,
-    };
     Question {
         node,
-        known_dimensions: absent,
-        parent_size: absent,
+        known_dimensions: Size::NONE,
+        parent_size: Size::NONE,
         available_space: Size {
             width: AvailableSpace::Definite(width),
             height: AvailableSpace::MaxContent,
@@ -41,22 +40,24 @@ fn about(node: u64, width: f32) -> Question {
     }
 }
 
+fn no_memory<T: Drop>(_failed: AllocFailed<T>) -> anyhow::Error {
+    anyhow!("no memory")
+}
+
 // Ten letters, the longest word of four, in cells of 8 by 16.
 fn text_host(rt: &HostRuntime) -> anyhow::Result<TextHost>
     ensures { IfOk result TextInOrder }
 {
     let mut host = TextHost::new(rt.alloc());
-    let text = TextRecord {
+    host.add_text(TextRecord {
         node: 7,
         style: Style::DEFAULT,
         letters: 10,
         longest_word: 4,
         cell_width: 8,
         line_height: 16,
-    };
-    if host.add_text(text).is_err() {
-        return Err(anyhow!("no memory"));
-    }
+    })
+    .map_err(no_memory)?;
     Ok(host)
 }
 
@@ -65,69 +66,60 @@ fn recorded_host(rt: &HostRuntime, span: u16) -> anyhow::Result<RecordedHost>
     ensures { IfOk result RecordedInOrder }
 {
     let mut host = RecordedHost::new(rt.alloc());
-    let mut all_held = host
-        .add_node(NodeRecord {
-            node: 7,
-            style: None,
-        })
-        .is_ok();
+    host.add_node(NodeRecord {
+        node: 7,
+        style: None,
+    })
+    .map_err(no_memory)?;
     for width in 0..span {
-        let question = about(7, f32::from(width));
-        let size = Size {
-            width: f32::from(width),
-            height: 16.0,
-        };
-        all_held &= host
-            .add_measurement(MeasurementRecord { question, size })
-            .is_ok();
+        let width = f32::from(width);
+        host.add_measurement(MeasurementRecord {
+            question: about(7, width),
+            size: Size {
+                width,
+                height: 16.0,
+            },
+        })
+        .map_err(no_memory)?;
     }
-    if all_held {
-        Ok(host)
-    } else {
-        Err(anyhow!("no memory"))
-    }
+    Ok(host)
 }
 
-fn say(rt: &HostRuntime, answer: Result<Size<f32>, HostFault>) -> anyhow::Result<()> {
-    match answer {
-        Ok(size) => {
-            let width = size.width;
-            let height = size.height;
-            println!(rt; "{width} by {height}")?;
-        }
-        Err(fault) => {
-            println!(rt; "{fault}")?;
+// An answer, as it is printed.
+#[derive(Drop)]
+struct Answer(Result<Size<f32>, HostFault>);
+
+impl fmt::Display for Answer {
+    fn fmt<W: fmt::Write>(&self, f: &mut fmt::Formatter<W>) -> fmt::Result {
+        match self.0 {
+            Ok(Size { width, height }) => write!(f, "{width} by {height}"),
+            Err(fault) => write!(f, "{fault}"),
         }
     }
-    Ok(())
 }
 
 // Asks twice what is answered, once about a node that is not there, and once what has no answer.
 fn ask<H: LayoutPartialTree>(rt: &HostRuntime, host: &mut H) -> anyhow::Result<()>
     requires { H.ordered host.old }
 {
-    say(rt, host.measure(about(7, 50.0)))?;
-    say(rt, host.measure(about(7, 50.0)))?;
-    say(rt, host.measure(about(8, 50.0)))?;
-    say(rt, host.measure(about(7, f32::NAN)))
+    rt.println(Answer(host.measure(about(7, 50.0))))?;
+    rt.println(Answer(host.measure(about(7, 50.0))))?;
+    rt.println(Answer(host.measure(about(8, 50.0))))?;
+    rt.println(Answer(host.measure(about(7, f32::NAN))))?;
+    Ok(())
 }
 
 // So many measurements, of one width below the span after the other; how many had no answer.
-fn measure_round<H: LayoutPartialTree>(host: &mut H, span: u16, rounds: u32) -> u32
+fn measure_round<H: LayoutPartialTree>(host: &mut H, span: u16, rounds: usize) -> u32
     requires { H.ordered host.old }
     ensures { H.ordered host.new }
 {
+    // Counted in the loop: of a host that a closure changes nothing would be known afterwards.
     let mut unanswered = 0u32;
-    let mut width = 0u16;
-    for _ in 0..rounds {
+    for width in (0..span).cycle().take(rounds) {
         if host.measure(about(7, f32::from(width))).is_err() {
             unanswered = unanswered.saturating_add(1);
         }
-        width = if width.saturating_add(1) < span {
-            width.saturating_add(1)
-        } else {
-            0
-        };
     }
     unanswered
 }
@@ -142,7 +134,7 @@ fn time<H: LayoutPartialTree>(
     ensures { H.ordered host.new }
 {
     let start = Instant::now(rt)?;
-    let unanswered = measure_round(host, span, ROUNDS);
+    let unanswered = measure_round(host, span, ROUNDS as usize);
     let nanoseconds = start.elapsed(rt)?.as_nanos() / u128::from(ROUNDS);
     eprintln!(rt; "{name}: {nanoseconds} ns a measurement, {unanswered} unanswered")?;
     Ok(())
@@ -152,10 +144,7 @@ fn time<H: LayoutPartialTree>(
 fn time_piles(rt: &HostRuntime) -> anyhow::Result<()> {
     let mut bare = recorded_host(rt, 65)?;
     time(rt, "bare host, 65 questions in turn", &mut bare, 65)?;
-    let Ok(cache) = Cache::new(rt.alloc(), bare) else {
-        return Err(anyhow!("no memory"));
-    };
-    let mut pile = Tally::new(cache);
+    let mut pile = tally_over_cache(rt.alloc(), bare).map_err(no_memory)?;
     time(
         rt,
         "tally over cache, 65 questions in turn, all missed",
@@ -170,10 +159,7 @@ fn time_piles(rt: &HostRuntime) -> anyhow::Result<()> {
     )?;
     let mut one = recorded_host(rt, 1)?;
     time(rt, "bare host of one answer", &mut one, 1)?;
-    let Ok(cache) = Cache::new(rt.alloc(), one) else {
-        return Err(anyhow!("no memory"));
-    };
-    let mut pile = Tally::new(cache);
+    let mut pile = tally_over_cache(rt.alloc(), one).map_err(no_memory)?;
     time(
         rt,
         "tally over cache, one question, hit but for the first",
@@ -184,24 +170,18 @@ fn time_piles(rt: &HostRuntime) -> anyhow::Result<()> {
 
 fn tally_over_cache_over_texts(rt: &HostRuntime) -> anyhow::Result<()> {
     println!(rt; "a tally over a cache over texts")?;
-    let Ok(cache) = Cache::new(rt.alloc(), text_host(rt)?) else {
-        return Err(anyhow!("no memory"));
-    };
-    let mut pile = Tally::new(cache);
+    let mut pile = tally_over_cache(rt.alloc(), text_host(rt)?).map_err(no_memory)?;
     ask(rt, &mut pile)?;
-    let passed = pile.measurements();
-    println!(rt; "{passed} measurements passed")?;
+    println!(rt; "{} measurements passed", pile.measurements())?;
     Ok(())
 }
 
 fn cache_over_tally_over_records(rt: &HostRuntime) -> anyhow::Result<()> {
     println!(rt; "a cache over a tally over records")?;
-    let Ok(mut pile) = Cache::new(rt.alloc(), Tally::new(recorded_host(rt, 51)?)) else {
-        return Err(anyhow!("no memory"));
-    };
+    let tally = Tally::new(recorded_host(rt, 51)?);
+    let mut pile = Cache::new(rt.alloc(), tally).map_err(no_memory)?;
     ask(rt, &mut pile)?;
-    let passed = pile.below().measurements();
-    println!(rt; "{passed} measurements passed")?;
+    println!(rt; "{} measurements passed", pile.below().measurements())?;
     Ok(())
 }
 
@@ -209,9 +189,11 @@ fn tally_over_tally_over_texts(rt: &HostRuntime) -> anyhow::Result<()> {
     println!(rt; "a tally over a tally over texts")?;
     let mut pile = Tally::new(Tally::new(text_host(rt)?));
     ask(rt, &mut pile)?;
-    let upper = pile.measurements();
-    let lower = pile.below().measurements();
-    println!(rt; "{upper} and {lower} measurements passed")?;
+    println!(rt;
+        "{} and {} measurements passed",
+        pile.measurements(),
+        pile.below().measurements()
+    )?;
     Ok(())
 }
 

@@ -1,4 +1,4 @@
 use Rattle.piles.proofs.measure_round.Given as goal
 
-abbrev pub invariant-loop : goal.invariant-loop
-invariant-loop g l = g.H.LayoutPartialTree.ordered l.host
+abbrev pub invariant-loop-width : goal.invariant-loop-width
+invariant-loop-width g l = g.H.LayoutPartialTree.ordered l.host
