@@ -1,5 +1,5 @@
 -- The meaning of a host that stands on a table of nodes: storing in the table is storing in the meaning.
-use Rattle.std.proofs.Common.{◌≡◌, ℕ, Bool, cond, eqb, List, is_some, Some, Option, sym, ap, ◌∙◌}
+use Rattle.std.proofs.Common.{◌≡◌, ℕ, cond, eqb, List, is_some, Some, Option, sym, ap, ◌∙◌}
 use mathlib.Core.Path.{fun_ext}
 use Rattle.tree.specs.Meaning.{Means, Meaning, with_stored}
 use Rattle.tree.specs.declared.layout.Layout.{Layout}
