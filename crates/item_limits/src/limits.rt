@@ -57,6 +57,7 @@ impl SideLength {
         }
     }
 
+    // Two functions: one that takes `f32_min` or `f32_max` would be as long, and both would still call it.
     pub fn at_most(self, other: SideLength) -> SideLength
         ensures { result ≡ at_most self other }
     {
@@ -77,7 +78,7 @@ impl SideLength {
 }
 
 impl Limits {
-    // From the style's minimum and maximum, as lengths of the box that `box-sizing` names.
+    // From the style's minimum and maximum, as lengths of the box that `box-sizing` names. Plain arguments: a struct would be made for this call alone.
     pub fn of_style(
         min: Option<f32>,
         max: Option<f32>,

@@ -14,7 +14,7 @@ pub struct AspectRatio {
 }
 
 impl AspectRatio {
-    // The box of this width.
+    // The box of this width. One function for both axes would be a `match` on the axis with these two bodies: limits and operator differ too.
     pub fn box_of_width(self, width: SideLength) -> Size<SideLength>
         ensures { result ≡ box_of_width self width }
     {

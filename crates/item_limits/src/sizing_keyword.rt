@@ -16,10 +16,7 @@ pub enum SizingKeywordResolution {
 fn measure_within(space: Option<f32>) -> Option<SizingKeywordResolution>
     ensures { result ≡ measured_within space }
 {
-    match space {
-        Some(space) => Some(SizingKeywordResolution::Measure(AvailableSpace::Definite(space))),
-        None => None,
-    }
+    space.map(|space| SizingKeywordResolution::Measure(AvailableSpace::Definite(space)))
 }
 
 // `stretch_fit` is the stretch-fit size, `fit_content_limit` the argument of `fit-content(..)` once it is resolved.
@@ -37,10 +34,7 @@ pub fn resolve_sizing_keyword(
         Dimension::FitContentFunction(LengthPercentage::Px(limit)) => measure_within(Some(limit)),
         Dimension::FitContentFunction(_) => measure_within(fit_content_limit),
         Dimension::FitContent => measure_within(stretch_fit),
-        Dimension::Stretch => match stretch_fit {
-            Some(size) => Some(SizingKeywordResolution::Exact(size)),
-            None => None,
-        },
+        Dimension::Stretch => stretch_fit.map(SizingKeywordResolution::Exact),
         _ => None,
     }
 }

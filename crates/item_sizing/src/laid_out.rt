@@ -39,7 +39,8 @@ impl SizingItem {
         self.question(known, space, RequestedAxis::Both)
     }
 
-    // The maximum of an answered width: its own, else that of the height, carried over.
+    // The maximum of an answered width: its own, else that of the height, carried over. `max_height` reads the same in the other axis;
+    // a function for both would take each of the three places that differ.
     fn max_width(self) -> Option<SideLength>
         ensures { result ≡ max_width self }
     {
