@@ -5,37 +5,38 @@ pub mod axes;
 pub mod points;
 pub mod rects;
 pub mod sizes;
+pub mod sums;
 
 // The two axes of the page.
-#[derive(Clone, Copy)]
+#[derive(Clone, Copy, Debug, PartialEq, Eq)]
 pub enum AbsoluteAxis {
     Horizontal,
     Vertical,
 }
 
 // A width and a height.
-#[derive(Clone, Copy)]
+#[derive(Clone, Copy, Debug, PartialEq)]
 pub struct Size<T> {
     pub width: T,
     pub height: T,
 }
 
 // A place, x to the right and y downward.
-#[derive(Clone, Copy)]
+#[derive(Clone, Copy, Debug, PartialEq)]
 pub struct Point<T> {
     pub x: T,
     pub y: T,
 }
 
 // The two ends of something along one axis.
-#[derive(Clone, Copy)]
+#[derive(Clone, Copy, Debug, PartialEq)]
 pub struct Line<T> {
     pub start: T,
     pub end: T,
 }
 
 // Four edges, or what stands at each of four sides.
-#[derive(Clone, Copy)]
+#[derive(Clone, Copy, Debug, PartialEq)]
 pub struct Rect<T> {
     pub left: T,
     pub right: T,
@@ -44,7 +45,7 @@ pub struct Rect<T> {
 }
 
 // One thing for each axis.
-#[derive(Clone, Copy)]
+#[derive(Clone, Copy, Debug, PartialEq)]
 pub struct InBothAbsAxis<T> {
     pub horizontal: T,
     pub vertical: T,

@@ -1,9 +1,6 @@
 // Rectangles, the lines that their sides make, and sums of sides.
-ghost use Rattle.std.specs.Prelude.{◌≡◌};
-ghost use Rattle.std.specs.Float.Ieee as Ieee;
-ghost use Rattle.std.specs.Float.{binary32};
-ghost use Rattle.geometry.specs.declared.AbsoluteAxis.TheVariants.{Horizontal, Vertical};
-ghost use Rattle.geometry.specs.Shapes.{sides, zip_rect};
+ghost use Rattle.std.specs.Prelude.{◌≡◌, ◌&&◌, is_some};
+ghost use Rattle.geometry.specs.Shapes.{sides};
 ghost use Rattle.geometry.specs.Holds.{union_of, SmallestAround};
 
 use crate::{AbsoluteAxis, Line, Rect, Size};
@@ -16,6 +13,14 @@ impl<T: Add<T> + Copy> Line<T> {
         ensures { T.Add.add_gives self.start self.end result }
     {
         self.start + self.end
+    }
+}
+
+impl<T> Line<Option<T>> {
+    pub fn both_set(&self) -> bool
+        ensures { result ≡ (is_some self.now.start && is_some self.now.end) }
+    {
+        self.start.is_some() && self.end.is_some()
     }
 }
 
@@ -34,48 +39,32 @@ impl<T> Rect<T> {
 }
 
 impl<T: Drop> Rect<T> {
-    pub fn horizontal_components(self) -> Line<T>
-        ensures { result ≡ sides Horizontal self }
+    // The two sides along an axis.
+    pub fn axis_components(self, axis: AbsoluteAxis) -> Line<T>
+        ensures { result ≡ sides axis self }
     {
-        Line {
-            start: self.left,
-            end: self.right,
-        }
-    }
-
-    pub fn vertical_components(self) -> Line<T>
-        ensures { result ≡ sides Vertical self }
-    {
-        Line {
-            start: self.top,
-            end: self.bottom,
+        match axis {
+            AbsoluteAxis::Horizontal => Line {
+                start: self.left,
+                end: self.right,
+            },
+            AbsoluteAxis::Vertical => Line {
+                start: self.top,
+                end: self.bottom,
+            },
         }
     }
 }
 
 // The two sides of an axis together, as of padding: not the extent of the rectangle.
 impl<T: Add<T> + Copy> Rect<T> {
-    pub fn horizontal_axis_sum(self) -> T::Output
-        requires { T.Add.can_add self.left self.right }
-        ensures { T.Add.add_gives self.left self.right result }
-    {
-        self.left + self.right
-    }
-
-    pub fn vertical_axis_sum(self) -> T::Output
-        requires { T.Add.can_add self.top self.bottom }
-        ensures { T.Add.add_gives self.top self.bottom result }
-    {
-        self.top + self.bottom
-    }
-
     pub fn grid_axis_sum(self, axis: AbsoluteAxis) -> T::Output
         requires { T.Add.can_add (sides axis self).start (sides axis self).end }
         ensures { T.Add.add_gives (sides axis self).start (sides axis self).end result }
     {
         match axis {
-            AbsoluteAxis::Horizontal => self.horizontal_axis_sum(),
-            AbsoluteAxis::Vertical => self.vertical_axis_sum(),
+            AbsoluteAxis::Horizontal => self.left + self.right,
+            AbsoluteAxis::Vertical => self.top + self.bottom,
         }
     }
 
@@ -84,8 +73,8 @@ impl<T: Add<T> + Copy> Rect<T> {
         ensures { T.Add.add_gives self.left self.right result.width × T.Add.add_gives self.top self.bottom result.height }
     {
         Size {
-            width: self.horizontal_axis_sum(),
-            height: self.vertical_axis_sum(),
+            width: self.grid_axis_sum(AbsoluteAxis::Horizontal),
+            height: self.grid_axis_sum(AbsoluteAxis::Vertical),
         }
     }
 }
@@ -109,19 +98,11 @@ impl Rect<f32> {
         }
     }
 
-    pub fn plus(self, rhs: Rect<f32>) -> Rect<f32>
-        ensures { result ≡ zip_rect (Ieee.add binary32) self rhs }
-    {
-        Rect {
-            left: self.left + rhs.left,
-            right: self.right + rhs.right,
-            top: self.top + rhs.top,
-            bottom: self.bottom + rhs.bottom,
-        }
-    }
-
-    fn outer_edges(self, other: Rect<f32>) -> Rect<f32>
-        ensures { result ≡ union_of self other }
+    // The smallest rectangle that holds both.
+    #[tactic(auto, using(crate::proofs::Unions::union_smallest))]
+    pub fn union(self, other: Rect<f32>) -> Rect<f32>
+        ensures edges { result ≡ union_of self other }
+        ensures law { SmallestAround self other result }
     {
         Rect {
             left: f32_min(self.left, other.left),
@@ -129,12 +110,5 @@ impl Rect<f32> {
             top: f32_min(self.top, other.top),
             bottom: f32_max(self.bottom, other.bottom),
         }
-    }
-    // The smallest rectangle that holds both.
-    pub fn union(self, other: Rect<f32>) -> Rect<f32>
-        ensures edges { result ≡ union_of self other }
-        ensures law { SmallestAround self other result }
-    {
-        self.outer_edges(other)
     }
 }

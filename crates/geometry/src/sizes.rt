@@ -1,7 +1,5 @@
 // Widths and heights.
 ghost use Rattle.std.specs.Prelude.{◌≡◌, ◌&&◌, is_some, Some};
-ghost use Rattle.std.specs.Float.Ieee as Ieee;
-ghost use Rattle.std.specs.Float.{binary32};
 ghost use Rattle.std.specs.Float as Floats;
 ghost use Rattle.std.specs.Option.{unwrap_or, option_or};
 ghost use Rattle.geometry.specs.Shapes.{extent, zip_size, has_area, with_aspect_ratio};
@@ -17,6 +15,28 @@ impl<T> Size<T> {
         Size {
             width: self.height,
             height: self.width,
+        }
+    }
+
+    // `f` of the width, and of the height.
+    pub fn map<U, F: Fn(T) -> U>(self, f: F) -> Size<U>
+        requires { F.pre f self.width × F.pre f self.height }
+        ensures { F.post f self.width result.width × F.post f self.height result.height }
+    {
+        Size {
+            width: f(self.width),
+            height: f(self.height),
+        }
+    }
+
+    // `f` of the two widths, and of the two heights.
+    pub fn zip_map<U, V, F: Fn(T, U) -> V>(self, other: Size<U>, f: F) -> Size<V>
+        requires { F.pre f self.width other.width × F.pre f self.height other.height }
+        ensures { F.post f self.width other.width result.width × F.post f self.height other.height result.height }
+    {
+        Size {
+            width: f(self.width, other.width),
+            height: f(self.height, other.height),
         }
     }
 }
@@ -38,20 +58,14 @@ impl<T: Drop> Size<Option<T>> {
     pub fn unwrap_or(self, alt: Size<T>) -> Size<T>
         ensures { result ≡ zip_size unwrap_or self alt }
     {
-        Size {
-            width: self.width.unwrap_or(alt.width),
-            height: self.height.unwrap_or(alt.height),
-        }
+        self.zip_map(alt, Option::unwrap_or)
     }
 
     // What is missing is taken from `alt`, where it may be missing too.
     pub fn or(self, alt: Size<Option<T>>) -> Size<Option<T>>
         ensures { result ≡ zip_size option_or self alt }
     {
-        Size {
-            width: self.width.or(alt.width),
-            height: self.height.or(alt.height),
-        }
+        self.zip_map(alt, Option::or)
     }
 
     pub fn both_axis_defined(&self) -> bool
@@ -70,37 +84,13 @@ impl Size<f32> {
     pub fn f32_max(self, rhs: Size<f32>) -> Size<f32>
         ensures { result ≡ zip_size Floats.float_max self rhs }
     {
-        Size {
-            width: f32_max(self.width, rhs.width),
-            height: f32_max(self.height, rhs.height),
-        }
+        self.zip_map(rhs, f32_max)
     }
 
     pub fn f32_min(self, rhs: Size<f32>) -> Size<f32>
         ensures { result ≡ zip_size Floats.float_min self rhs }
     {
-        Size {
-            width: f32_min(self.width, rhs.width),
-            height: f32_min(self.height, rhs.height),
-        }
-    }
-
-    pub fn plus(self, rhs: Size<f32>) -> Size<f32>
-        ensures { result ≡ zip_size (Ieee.add binary32) self rhs }
-    {
-        Size {
-            width: self.width + rhs.width,
-            height: self.height + rhs.height,
-        }
-    }
-
-    pub fn minus(self, rhs: Size<f32>) -> Size<f32>
-        ensures { result ≡ zip_size (Ieee.sub binary32) self rhs }
-    {
-        Size {
-            width: self.width - rhs.width,
-            height: self.height - rhs.height,
-        }
+        self.zip_map(rhs, f32_min)
     }
 
     // Both above zero.
@@ -130,19 +120,16 @@ impl Size<Option<f32>> {
     pub fn maybe_apply_aspect_ratio(self, aspect_ratio: Option<f32>) -> Size<Option<f32>>
         ensures { result ≡ with_aspect_ratio aspect_ratio self }
     {
-        match aspect_ratio {
-            Some(ratio) => match (self.width, self.height) {
-                (Some(width), None) => Size {
-                    width: self.width,
-                    height: Some(width / ratio),
-                },
-                (None, Some(height)) => Size {
-                    width: Some(height * ratio),
-                    height: self.height,
-                },
-                _ => self,
+        match (aspect_ratio, self.width, self.height) {
+            (Some(ratio), Some(width), None) => Size {
+                width: self.width,
+                height: Some(width / ratio),
             },
-            None => self,
+            (Some(ratio), None, Some(height)) => Size {
+                width: Some(height * ratio),
+                height: self.height,
+            },
+            _ => self,
         }
     }
 }

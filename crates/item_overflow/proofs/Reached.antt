@@ -1,5 +1,5 @@
 -- A contribution is nothing, or the smallest rectangle around what the item reaches.
-use Rattle.std.proofs.Common.{◌≡◌, Bool, true, false, cond, not, ◌&&◌, ◌||◌, T, ◌⊎◌, refl, inl, inr}
+use Rattle.std.proofs.Common.{◌≡◌, Bool, true, false, cond, not, ◌&&◌, ◌||◌, T, ◌⊎◌, sym, refl, subst, inl, inr}
 use lib.Ieee.{Float, binary32, of_bits, le, lt}
 use lib.Ieee.Fits.{sub-fits}
 use Rattle.std.specs.Float.Order.{le_right, lt_of_not-le}
@@ -56,7 +56,10 @@ module _ (c : ContainerBox) (i : ItemBox) (m : Moderate c i) where
   choose true k = inl refl
   choose false k = inr (reached (k tt))
 
-pub contributes : (c : ContainerBox) (i : ItemBox) → Contributes c i (scrollable_overflow_contribution c i)
-contributes c i m =
+by_definition : (c : ContainerBox) (i : ItemBox) → Contributes c i (scrollable_overflow_contribution c i)
+by_definition c i m =
     choose c i m (adds_nothing c i)
     (in_view (is_empty (inline_reach c i) || is_empty (block_reach i)) c.is_scroll_container (le (reached_area c i).right zero) (le (reached_area c i).bottom zero))
+
+pub contributes : (c : ContainerBox) (i : ItemBox) (r : Rect Float) → r ≡ scrollable_overflow_contribution c i → Contributes c i r
+contributes c i r e = subst (Contributes c i) (sym e) (by_definition c i)

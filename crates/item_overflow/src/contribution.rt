@@ -4,7 +4,7 @@ ghost use Rattle.item_overflow.specs.Laws.{Contributes};
 ghost use Rattle.item_overflow.specs.ScrollableOverflow as area;
 
 use crate::boxes::{ContainerBox, ItemBox};
-use geometry::{Line, Point, Rect};
+use geometry::{AbsoluteAxis, Line, Point, Rect};
 use number::{f32_max, f32_min};
 use style::alignment::Direction;
 use style::modes::Overflow;
@@ -82,14 +82,14 @@ impl ItemBox {
             Direction::Rtl => self.border.right,
         };
         let content = shifted(
-            self.scrollable_overflow_rect.horizontal_components(),
+            self.scrollable_overflow_rect
+                .axis_components(AbsoluteAxis::Horizontal),
             inline_start,
         );
-        match (self.direction, container.direction) {
-            (Direction::Ltr, Direction::Ltr) => content,
-            (Direction::Ltr, Direction::Rtl) => mirrored(content, self.size.width),
-            (Direction::Rtl, Direction::Ltr) => mirrored(content, self.size.width),
-            (Direction::Rtl, Direction::Rtl) => content,
+        if self.direction == container.direction {
+            content
+        } else {
+            mirrored(content, self.size.width)
         }
     }
 
@@ -97,7 +97,8 @@ impl ItemBox {
         ensures { result ≡ area.block_overflow self }
     {
         shifted(
-            self.scrollable_overflow_rect.vertical_components(),
+            self.scrollable_overflow_rect
+                .axis_components(AbsoluteAxis::Vertical),
             self.border.top,
         )
     }
@@ -110,31 +111,6 @@ impl ItemBox {
             || self.overflow.y.is_scroll_container()
             || self.contain.contains_scrollable_overflow()
     }
-
-    fn contribution(self, container: ContainerBox) -> Rect<f32>
-        ensures { result ≡ area.scrollable_overflow_contribution container self }
-    {
-        let keeps = self.keeps_overflow();
-        let inline = self.inline_overflow(container);
-        let inline_reach = reach(keeps, self.overflow.x, self.size.width, inline);
-        let block_reach = reach(
-            keeps,
-            self.overflow.y,
-            self.size.height,
-            self.block_overflow(),
-        );
-        if is_empty(inline_reach) || is_empty(block_reach) {
-            return Rect::ZERO;
-        }
-        let corner = self.corner(container);
-        let across = shifted(inline_reach, corner.x);
-        let down = shifted(block_reach, corner.y);
-        let reached = Rect::new(across.start, across.end, down.start, down.end);
-        if container.is_scroll_container && is_unreachable(reached) {
-            return Rect::ZERO;
-        }
-        reached
-    }
 }
 
 // The rectangle that an item adds to its container's scrollable overflow area, from the container's scroll origin.
@@ -142,5 +118,24 @@ pub fn compute_scrollable_overflow_contribution(item: ItemBox, container: Contai
     ensures value { result ≡ area.scrollable_overflow_contribution container item }
     ensures law { Contributes container item result }
 {
-    item.contribution(container)
+    let keeps = item.keeps_overflow();
+    let inline = item.inline_overflow(container);
+    let inline_reach = reach(keeps, item.overflow.x, item.size.width, inline);
+    let block_reach = reach(
+        keeps,
+        item.overflow.y,
+        item.size.height,
+        item.block_overflow(),
+    );
+    if is_empty(inline_reach) || is_empty(block_reach) {
+        return Rect::ZERO;
+    }
+    let corner = item.corner(container);
+    let across = shifted(inline_reach, corner.x);
+    let down = shifted(block_reach, corner.y);
+    let reached = Rect::new(across.start, across.end, down.start, down.end);
+    if container.is_scroll_container && is_unreachable(reached) {
+        return Rect::ZERO;
+    }
+    reached
 }

@@ -1,6 +1,8 @@
 -- Automatic margins: what they are where the space is not below 0, is 0, or is not for them.
 use Rattle.std.proofs.Common.{◌≡◌, Bool, true, false, cond, ◌||◌, T, Some, None, Option, sym, refl, ap, ◌∙◌}
 use lib.Ieee.{Float, of_bits, div, le, lt, is_nan}
+use Rattle.std.proofs.lemmas.Bool.{false_from_ne_true}
+use Rattle.std.proofs.lemmas.Float.{T_from_true}
 use Rattle.std.specs.Float.{float_max}
 use Rattle.std.specs.Float.Order.{lt_of_lt_of_le, lt_irrefl}
 use Rattle.geometry.specs.declared.AbsoluteAxis.{AbsoluteAxis}
@@ -10,16 +12,8 @@ use Rattle.item_placing.specs.Blocks.{zero, line}
 use Rattle.item_placing.specs.Margins.{halves, at_line_end, two_auto_margins, filled_margins}
 use borrow.Author.Tests.{clash}
 
-pub true_of : (b : Bool) → T b → b ≡ true
-true_of true t = refl
-true_of false t = absurd t
-
-pub false_of : (b : Bool) → (T b → ⊥) → b ≡ false
-false_of true n = absurd (n tt)
-false_of false n = refl
-
 pub not_below : (x : Float) → T (le zero x) → lt x zero ≡ false
-not_below x h = false_of (lt x zero) (λ l. lt_irrefl x (lt_of_lt_of_le x zero x l h))
+not_below x h = false_from_ne_true (lt x zero) (λ l. lt_irrefl x (lt_of_lt_of_le x zero x (T_from_true (lt x zero) l) h))
 
 zero_number : is_nan zero ≡ false
 unfolding is_nan of_bits
@@ -27,7 +21,7 @@ zero_number = refl
 
 -- what is at least zero is not below it
 pub never_below : (x : Float) → lt (float_max x zero) zero ≡ false
-never_below x = false_of (lt (float_max x zero) zero) (go (le zero x) (is_nan zero) zero_number (λ t. t))
+never_below x = false_from_ne_true (lt (float_max x zero) zero) (λ e. go (le zero x) (is_nan zero) zero_number (λ t. t) (T_from_true (lt (float_max x zero) zero) e))
   where
     go : (c n : Bool) → n ≡ false → (T c → T (le zero x)) → T (lt (cond (c || n) x zero) zero) → ⊥
     go true n z f h = lt_irrefl x (lt_of_lt_of_le x zero x h (f tt))
@@ -43,7 +37,7 @@ unfolding div of_bits
 zero_halves = refl
 
 zero_not_below : lt zero zero ≡ false
-zero_not_below = false_of (lt zero zero) (lt_irrefl zero)
+zero_not_below = false_from_ne_true (lt zero zero) (λ e. lt_irrefl zero (T_from_true (lt zero zero) e))
 
 pub halves_of_nothing : (x : AbsoluteAxis) (d : Direction) → two_auto_margins zero x d ≡ line zero zero
 halves_of_nothing x d = equal_halves zero x d zero_not_below ∙ zero_halves

@@ -1,6 +1,8 @@
 -- The laws of an item that was placed, from the definition of its place.
 use Rattle.std.proofs.Common.{◌≡◌, Bool, true, false, cond, ◌&&◌, T, Some, None, Option, sym, refl, ap, ◌∙◌, subst}
 use lib.Ieee.{Float, binary32, add, sub, lt}
+use lib.Ieee.Bits.{is_true}
+use Rattle.std.proofs.Math.Bool.{and-false}
 use Rattle.geometry.specs.declared.AbsoluteAxis.{AbsoluteAxis}
 use Rattle.geometry.specs.declared.AbsoluteAxis.TheVariants.{Horizontal, Vertical}
 use Rattle.geometry.specs.declared.Line.{Line}
@@ -22,43 +24,37 @@ use Rattle.item_placing.specs.Laws.{Meets, Uses, whole_area, left_over, with_ins
 use Rattle.item_placing.specs.declared.area_item.AreaItem.{AreaItem}
 use Rattle.item_placing.specs.declared.edge.Edge.{Edge}
 use Rattle.item_placing.specs.declared.edge.Edge.TheVariants.{First, Last, Middle}
-use Rattle.item_placing.proofs.AutoMargins.{true_of, not_below, never_below, equal_halves, halves_of_nothing, any_direction, vertical_direction}
+use Rattle.item_placing.proofs.AutoMargins.{not_below, never_below, equal_halves, halves_of_nothing, any_direction, vertical_direction}
 use borrow.Author.Tests.{clash}
 
 either : (b : Bool) (k : AlignItemsKeyword) → cond b k k ≡ k
 either true k = refl
 either false k = refl
 
-never : (b : Bool) → (b && false) ≡ false
-never true = refl
-never false = refl
-
 own_safety : (s : AlignmentSafety) → overflow_position s false ≡ s
 own_safety Default = refl
 own_safety Unsafe = refl
 own_safety Safe = refl
 
+start_turns : (d : Direction) → start_edge (turned d) ≡ opposite (start_edge d)
+start_turns Ltr = refl
+start_turns Rtl = refl
+
+end_turns : (d : Direction) → end_edge (turned d) ≡ opposite (end_edge d)
+end_turns Ltr = refl
+end_turns Rtl = refl
+
 edge_turns : (k : AlignItemsKeyword) (d : Direction) → aligned_edge k (turned d) ≡ opposite (aligned_edge k d)
-edge_turns Normal Ltr = refl
-edge_turns Normal Rtl = refl
-edge_turns Start Ltr = refl
-edge_turns Start Rtl = refl
-edge_turns End Ltr = refl
-edge_turns End Rtl = refl
-edge_turns FlexStart Ltr = refl
-edge_turns FlexStart Rtl = refl
-edge_turns FlexEnd Ltr = refl
-edge_turns FlexEnd Rtl = refl
-edge_turns SelfStart Ltr = refl
-edge_turns SelfStart Rtl = refl
-edge_turns SelfEnd Ltr = refl
-edge_turns SelfEnd Rtl = refl
-edge_turns Center Ltr = refl
-edge_turns Center Rtl = refl
-edge_turns Baseline Ltr = refl
-edge_turns Baseline Rtl = refl
-edge_turns Stretch Ltr = refl
-edge_turns Stretch Rtl = refl
+edge_turns Normal d = start_turns d
+edge_turns Start d = start_turns d
+edge_turns End d = end_turns d
+edge_turns FlexStart d = start_turns d
+edge_turns FlexEnd d = end_turns d
+edge_turns SelfStart d = start_turns d
+edge_turns SelfEnd d = end_turns d
+edge_turns Center d = refl
+edge_turns Baseline d = start_turns d
+edge_turns Stretch d = start_turns d
 
 -- p with another position, axis and direction
 abbrev at : AreaItem → Position → AbsoluteAxis → Direction → AreaItem
@@ -113,27 +109,6 @@ module _ (p : AreaItem) where
 -- ---- in flow
 
 module _ (p : AreaItem) where
-  flow_block : (q : Position) → out_of_flow q ≡ false → block_of (at p q p.axis p.direction) ≡ whole_area p
-  flow_block Static o = refl
-  flow_block Relative o = refl
-  flow_block Absolute o = absurd (clash (sym o))
-  flow_block Fixed o = absurd (clash (sym o))
-  flow_block Sticky o = refl
-
-  flow_space : (q : Position) → out_of_flow q ≡ false → auto_space (at p q p.axis p.direction) ≡ left_over (at p q p.axis p.direction)
-  flow_space Static o = refl
-  flow_space Relative o = refl
-  flow_space Absolute o = absurd (clash (sym o))
-  flow_space Fixed o = absurd (clash (sym o))
-  flow_space Sticky o = refl
-
-  flow_edge : (q : Position) → out_of_flow q ≡ false → edge_of (at p q p.axis p.direction) ≡ edge_by_alignment (at p q p.axis p.direction)
-  flow_edge Static o = refl
-  flow_edge Relative o = refl
-  flow_edge Absolute o = absurd (clash (sym o))
-  flow_edge Fixed o = absurd (clash (sym o))
-  flow_edge Sticky o = refl
-
   flow_insets : (q : Position) → out_of_flow q ≡ false → (i : Line (Option Float)) → placed (with_insets i (at p q p.axis p.direction)) ≡ placed (at p q p.axis p.direction)
   flow_insets Static o i = refl
   flow_insets Relative o i = refl
@@ -141,12 +116,15 @@ module _ (p : AreaItem) where
   flow_insets Fixed o i = absurd (clash (sym o))
   flow_insets Sticky o i = refl
 
+  shared_alike : (c : Direction) → used_margins (at p Static p.axis c) ≡ used_margins (at p Static p.axis p.direction)
+  shared_alike c = ap (with_shim p.baseline_shim) (any_direction (left_over (at p Static p.axis c)) (never_below (rest_of (at p Static p.axis c))) p.axis c p.direction p.margin.start p.margin.end)
+
   same_margins : (q : Position) (c : Direction) → out_of_flow q ≡ false → used_margins (at p q p.axis c) ≡ used_margins (at p q p.axis p.direction)
-  same_margins Static c o = ap (with_shim p.baseline_shim) (any_direction (left_over (at p Static p.axis c)) (never_below (rest_of (at p Static p.axis c))) p.axis c p.direction p.margin.start p.margin.end)
-  same_margins Relative c o = ap (with_shim p.baseline_shim) (any_direction (left_over (at p Static p.axis c)) (never_below (rest_of (at p Static p.axis c))) p.axis c p.direction p.margin.start p.margin.end)
+  same_margins Static c o = shared_alike c
+  same_margins Relative c o = shared_alike c
   same_margins Absolute c o = absurd (clash (sym o))
   same_margins Fixed c o = absurd (clash (sym o))
-  same_margins Sticky c o = ap (with_shim p.baseline_shim) (any_direction (left_over (at p Static p.axis c)) (never_below (rest_of (at p Static p.axis c))) p.axis c p.direction p.margin.start p.margin.end)
+  same_margins Sticky c o = shared_alike c
 
   -- what counts in flow, in either direction
   abbrev flow_keyword : AlignItemsKeyword
@@ -160,17 +138,29 @@ module _ (p : AreaItem) where
   other_edge Sticky o = edge_turns flow_keyword p.direction
 
 module _ (p : AreaItem) (o : out_of_flow p.position ≡ false) where
+  no_insets : insets_of p ≡ neither
+  no_insets = ap (λ (b : Bool). counted_insets b p.inset) o
+
+  flow_block : block_of p ≡ whole_area p
+  flow_block = ap (λ (i : Line (Option Float)). block_within (area_size p.area) i (direction_of p)) no_insets
+
+  flow_edge : edge_of p ≡ edge_by_alignment p
+  flow_edge = ap (λ (i : Line (Option Float)). held_edge i.start i.end (edge_by_alignment p)) no_insets
+
+  flow_space : auto_space p ≡ left_over p
+  flow_space = ap (λ (b : Bool). taken b (both_set p.inset) (rest_of p)) o
+
   flow_safety : overflow_position p.alignment.safety (both_set (insets_of p)) ≡ p.alignment.safety
-  flow_safety = ap (λ (b : Bool). overflow_position p.alignment.safety (both_set (counted_insets b p.inset))) o ∙ own_safety p.alignment.safety
+  flow_safety = ap (λ (i : Line (Option Float)). overflow_position p.alignment.safety (both_set i)) no_insets ∙ own_safety p.alignment.safety
 
   flow_way : (b : Bool) → (safe p.alignment.safety && overflows p) ≡ b → (safe (overflow_position p.alignment.safety (both_set (insets_of p))) && overflows p) ≡ b
   flow_way b h = ap (λ (s : AlignmentSafety). safe s && overflows p) flow_safety ∙ h
 
   flow_meets : (e : Edge) → edge_by_alignment p ≡ e → Meets e (whole_area p) p (placed p)
-  flow_meets e g = meets p e (whole_area p) (flow_edge p p.position o ∙ g) (flow_block p p.position o)
+  flow_meets e g = meets p e (whole_area p) (flow_edge ∙ g) flow_block
 
   flow_uses : (a b : Option Float) → p.margin ≡ line a b → Uses (filled_margins (left_over p) p.axis p.direction a b) p (placed p)
-  flow_uses a b g = uses p (left_over p) a b (flow_space p p.position o) g
+  flow_uses a b g = uses p (left_over p) a b flow_space g
 
   in_flow : InFlow p (placed p)
   in_flow = record {
@@ -178,7 +168,7 @@ module _ (p : AreaItem) (o : out_of_flow p.position ≡ false) where
     end_stands_at_the_end = λ k h. flow_meets (end_edge (direction_of p)) (edge_is p End false k (flow_way false h));
     center_stands_in_the_middle = λ k h. flow_meets Middle (edge_is p Center false k (flow_way false h));
     safe_overflow_stands_at_the_start = λ s h. flow_meets (start_edge (direction_of p))
-        (edge_is p p.alignment.keyword true refl (flow_way true (ap (λ (w : AlignmentSafety). safe w && overflows p) s ∙ true_of (overflows p) h)));
+        (edge_is p p.alignment.keyword true refl (flow_way true (ap (λ (w : AlignmentSafety). safe w && overflows p) s ∙ is_true (overflows p) h)));
     two_auto_margins_halve_what_is_left = λ g. flow_uses None None g ∙ ap (with_shim p.baseline_shim) (equal_halves (left_over p) p.axis p.direction (never_below (rest_of p)));
     an_auto_start_margin_takes_what_is_left = λ b g. flow_uses None (Some b) g;
     an_auto_end_margin_takes_what_is_left = λ a g. flow_uses (Some a) None g;
@@ -227,7 +217,7 @@ module _ (p : AreaItem) (o : out_of_flow p.position ≡ true) (a b : Float) (i :
   by_default s h =
       ap (λ (w : AlignmentSafety). safe (overflow_position w (both_set (insets_of p))) && overflows p) s
       ∙ ap (λ (w : Bool). safe (overflow_position Default w) && overflows p) both
-      ∙ true_of (overflows p) h
+      ∙ is_true (overflows p) h
 
   shares : p.margin ≡ neither → Uses (two_auto_margins (rest_of p) p.axis p.direction) p (placed p)
   shares g = uses p (rest_of p) None None (space_is p o true (ap both_set i)) g
@@ -236,7 +226,7 @@ module _ (p : AreaItem) (o : out_of_flow p.position ≡ true) (a b : Float) (i :
   between h = record {
     start_stands_at_the_start = λ k. between_meets h (start_edge (direction_of p)) (start_is p k);
     end_stands_at_the_end = λ k n. between_meets h (end_edge (direction_of p))
-        (edge_is p End false k (ap (λ (w : Bool). safe (overflow_position p.alignment.safety (both_set (insets_of p))) && w) n ∙ never (safe (overflow_position p.alignment.safety (both_set (insets_of p))))));
+        (edge_is p End false k (ap (λ (w : Bool). safe (overflow_position p.alignment.safety (both_set (insets_of p))) && w) n ∙ and-false (safe (overflow_position p.alignment.safety (both_set (insets_of p))))));
     unsafe_end_stands_at_the_end = λ k s. between_meets h (end_edge (direction_of p))
         (edge_is p End false k (ap (λ (w : AlignmentSafety). safe (overflow_position w (both_set (insets_of p))) && overflows p) s));
     overflow_stands_at_the_start_by_default = λ s n. between_meets h (start_edge (direction_of p)) (edge_is p p.alignment.keyword true refl (by_default s n));
@@ -245,13 +235,16 @@ module _ (p : AreaItem) (o : out_of_flow p.position ≡ true) (a b : Float) (i :
     horizontally_an_overflow_is_at_the_line_end = λ g x n.
         shares g
         ∙ ap (λ (w : AbsoluteAxis). with_shim p.baseline_shim (two_auto_margins (rest_of p) w p.direction)) x
-        ∙ ap (λ (w : Bool). with_shim p.baseline_shim (cond w (at_line_end p.direction (rest_of p)) (halves (rest_of p)))) (true_of (lt (rest_of p) zero) n);
+        ∙ ap (λ (w : Bool). with_shim p.baseline_shim (cond w (at_line_end p.direction (rest_of p)) (halves (rest_of p)))) (is_true (lt (rest_of p) zero) n);
   }
 
-pub laws : (p : AreaItem) → Placed p (placed p)
-laws p = record {
+of_placed : (p : AreaItem) → Placed p (placed p)
+of_placed p = record {
   anywhere = anywhere p;
   in_flow = in_flow p;
   beside_an_auto_inset = beside p;
   between_two_insets = λ o a b i h. between p o a b i h;
 }
+
+pub laws : (p : AreaItem) (r : Float × Line Float) → r ≡ placed p → Placed p r
+laws p r e = subst (Placed p) (sym e) (of_placed p)

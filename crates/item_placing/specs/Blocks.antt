@@ -18,6 +18,11 @@ line start end = record { start = start; end = end }
 abbrev pub neither : Line (Option Float)
 neither = line None None
 
+-- left and right as start and end of a line that runs so, and start and end as left and right
+abbrev pub flow_relative : {A : Type 0} → Direction → Line A → Line A
+flow_relative Ltr sides = sides
+flow_relative Rtl sides = line sides.end sides.start
+
 abbrev pub or_zero : Option Float → Float
 or_zero (Some x) = x
 or_zero None = zero

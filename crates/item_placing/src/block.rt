@@ -1,9 +1,9 @@
 // The alignment container of an item, along one axis.
 ghost use Rattle.std.specs.Prelude.{◌≡◌};
-ghost use Rattle.item_placing.specs.Blocks.{area_size, counted_insets, both_set, block_within, direction_of, insets_of, block_of, length_of};
+ghost use Rattle.item_placing.specs.Blocks.{area_size, block_within, insets_of, block_of, length_of};
 
 use crate::area_item::AreaItem;
-use crate::edge::axis_direction;
+use crate::direction::flow_relative;
 use geometry::Line;
 use number::f32_max;
 use style::alignment::Direction;
@@ -12,13 +12,7 @@ use style::alignment::Direction;
 fn area_size(area: Line<f32>) -> f32
     ensures { result ≡ area_size area }
 {
-    f32_max(area.end - area.start, 0.0)
-}
-
-pub(crate) fn both_set(inset: Line<Option<f32>>) -> bool
-    ensures { result ≡ both_set inset }
-{
-    inset.start.is_some() && inset.end.is_some()
+    f32_max(length_of(area), 0.0)
 }
 
 pub(crate) fn length_of(block: Line<f32>) -> f32
@@ -31,28 +25,22 @@ pub(crate) fn length_of(block: Line<f32>) -> f32
 fn block_within(size: f32, inset: Line<Option<f32>>, direction: Direction) -> Line<f32>
     ensures { result ≡ block_within size inset direction }
 {
-    let start = inset.start.unwrap_or(0.0);
-    let end = match inset.end {
-        Some(inset) => size - inset,
-        None => size,
+    let block = Line {
+        start: inset.start.unwrap_or(0.0),
+        end: inset.end.map_or(size, |inset| size - inset),
     };
-    if both_set(inset) && end < start {
-        match direction {
-            Direction::Ltr => Line { start, end: start },
-            Direction::Rtl => Line { start: end, end },
+    if inset.both_set() && block.end < block.start {
+        let edge = flow_relative(block, direction).start;
+        Line {
+            start: edge,
+            end: edge,
         }
     } else {
-        Line { start, end }
+        block
     }
 }
 
 impl AreaItem {
-    pub(crate) fn axis_direction(self) -> Direction
-        ensures { result ≡ direction_of self }
-    {
-        axis_direction(self.axis, self.direction)
-    }
-
     // The insets that bound the block: in flow there are none.
     pub(crate) fn insets(self) -> Line<Option<f32>>
         ensures { result ≡ insets_of self }

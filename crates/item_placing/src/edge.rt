@@ -1,8 +1,9 @@
 // The edge of its alignment container that an item is aligned to, per CSS Box Alignment 3.
 ghost use Rattle.std.specs.Prelude.{◌≡◌};
-ghost use Rattle.item_placing.specs.Edges.{axis_direction, aligned_edge, overflow_position, keyword_on_overflow};
+ghost use Rattle.item_placing.specs.Edges.{aligned_edge, overflow_position, keyword_on_overflow};
 
-use geometry::AbsoluteAxis;
+use crate::direction::flow_relative;
+use geometry::Line;
 use style::alignment::{AlignItems, AlignItemsKeyword, AlignmentSafety, Direction};
 
 // A physical edge of the alignment container, or the middle between the two.
@@ -13,31 +14,20 @@ pub enum Edge {
     Middle,
 }
 
-// The way in which an axis runs: vertically always onward from the top.
-pub(crate) fn axis_direction(axis: AbsoluteAxis, direction: Direction) -> Direction
-    ensures { result ≡ axis_direction axis direction }
-{
-    match axis {
-        AbsoluteAxis::Horizontal => direction,
-        AbsoluteAxis::Vertical => Direction::Ltr,
-    }
-}
-
 // The edge that a keyword names. A baseline counts as the start; `self-start` and `self-end` as those of an item that runs as its container does.
 pub(crate) fn aligned_edge(keyword: AlignItemsKeyword, direction: Direction) -> Edge
     ensures { result ≡ aligned_edge keyword direction }
 {
+    let physical = Line {
+        start: Edge::First,
+        end: Edge::Last,
+    };
+    let edges = flow_relative(physical, direction);
     match keyword {
         AlignItemsKeyword::Center => Edge::Middle,
         AlignItemsKeyword::End | AlignItemsKeyword::FlexEnd | AlignItemsKeyword::SelfEnd =>
-            match direction {
-                Direction::Ltr => Edge::Last,
-                Direction::Rtl => Edge::First,
-            },
-        _ => match direction {
-            Direction::Ltr => Edge::First,
-            Direction::Rtl => Edge::Last,
-        },
+            edges.end,
+        _ => edges.start,
     }
 }
 
@@ -46,13 +36,7 @@ pub(crate) fn overflow_position(safety: AlignmentSafety, between_insets: bool) -
     ensures { result ≡ overflow_position safety between_insets }
 {
     match safety {
-        AlignmentSafety::Default => {
-            if between_insets {
-                AlignmentSafety::Safe
-            } else {
-                AlignmentSafety::Default
-            }
-        }
+        AlignmentSafety::Default if between_insets => AlignmentSafety::Safe,
         other => other,
     }
 }

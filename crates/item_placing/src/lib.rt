@@ -3,6 +3,7 @@
 
 pub mod area_item;
 pub mod block;
+pub mod direction;
 pub mod edge;
 pub mod margins;
 pub mod offset;

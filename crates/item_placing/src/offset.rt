@@ -2,6 +2,7 @@
 ghost use Rattle.std.specs.Prelude.{◌≡◌};
 ghost use Rattle.item_placing.specs.Offsets.{inset_offset, relative_offset};
 
+use crate::direction::flow_relative;
 use geometry::Line;
 use style::alignment::Direction;
 use style::modes::Position;
@@ -10,18 +11,12 @@ use style::modes::Position;
 fn inset_offset(inset: Line<Option<f32>>, direction: Direction) -> f32
     ensures { result ≡ inset_offset direction inset.start inset.end }
 {
-    match direction {
-        Direction::Ltr => match (inset.start, inset.end) {
-            (Some(start), _) => start,
-            (None, Some(end)) => -end,
-            (None, None) => 0.0,
-        },
-        Direction::Rtl => match (inset.end, inset.start) {
-            (Some(end), _) => -end,
-            (None, Some(start)) => start,
-            (None, None) => 0.0,
-        },
-    }
+    let offsets = Line {
+        start: inset.start,
+        end: inset.end.map(|end| -end),
+    };
+    let Line { start, end } = flow_relative(offsets, direction);
+    start.or(end).unwrap_or(0.0)
 }
 
 // How far its insets move an item along one axis; no other position than `relative` moves. Vertically the direction is `Ltr`.

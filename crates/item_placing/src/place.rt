@@ -4,7 +4,7 @@ ghost use Rattle.item_placing.specs.Laws.{Placed};
 ghost use Rattle.item_placing.specs.Places.{overflows, edge_by_alignment, edge_of, placed};
 
 use crate::area_item::AreaItem;
-use crate::block::{both_set, length_of};
+use crate::block::length_of;
 use crate::edge::{Edge, aligned_edge, overflow_position, resolve_self_alignment_safety};
 use geometry::Line;
 
@@ -19,7 +19,7 @@ impl AreaItem {
     fn edge_by_alignment(self) -> Edge
         ensures { result ≡ edge_by_alignment self }
     {
-        let safety = overflow_position(self.alignment.safety, both_set(self.insets()));
+        let safety = overflow_position(self.alignment.safety, self.insets().both_set());
         let keyword = resolve_self_alignment_safety(
             self.alignment.with_safety(safety),
             self.overflows(),
@@ -38,19 +38,6 @@ impl AreaItem {
             _ => self.edge_by_alignment(),
         }
     }
-
-    fn place(self) -> (f32, Line<f32>)
-        ensures { result ≡ placed self }
-    {
-        let block = self.block();
-        let margin = self.used_margins();
-        let offset = match self.edge() {
-            Edge::First => block.start + margin.start,
-            Edge::Last => block.end - self.size - margin.end,
-            Edge::Middle => (block.end - self.size + margin.start - margin.end + block.start) / 2.0,
-        };
-        (self.area.start + offset, margin)
-    }
 }
 
 // The place of the border box along the axis, and the margins that the item uses.
@@ -58,5 +45,12 @@ pub fn align_item_within_area(item: AreaItem) -> (f32, Line<f32>)
     ensures value { result ≡ placed item }
     ensures laws { Placed item result }
 {
-    item.place()
+    let block = item.block();
+    let margin = item.used_margins();
+    let offset = match item.edge() {
+        Edge::First => block.start + margin.start,
+        Edge::Last => block.end - item.size - margin.end,
+        Edge::Middle => (block.end - item.size + margin.start - margin.end + block.start) / 2.0,
+    };
+    (item.area.start + offset, margin)
 }

@@ -1,8 +1,6 @@
 // The worked places come out of the definitions.
 ghost use Rattle.item_placing.specs.Worked.{Worked};
 
-pub fn places_hold() -> u8
+pub fn places_hold()
     ensures { Worked }
-{
-    0
-}
+{}

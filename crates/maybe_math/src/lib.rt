@@ -50,45 +50,23 @@ impl MaybeMath<Option<f32>, Option<f32>> for Option<f32> {
     ghost difference = { maybe_sub };
 
     fn maybe_min(self, rhs: Option<f32>) -> Option<f32> {
-        match (self, rhs) {
-            (Some(l), Some(r)) => Some(f32_min(l, r)),
-            (Some(_), None) => self,
-            (None, _) => None,
-        }
+        self.map(|val| val.maybe_min(rhs))
     }
 
     fn maybe_max(self, rhs: Option<f32>) -> Option<f32> {
-        match (self, rhs) {
-            (Some(l), Some(r)) => Some(f32_max(l, r)),
-            (Some(_), None) => self,
-            (None, _) => None,
-        }
+        self.map(|val| val.maybe_max(rhs))
     }
 
     fn maybe_clamp(self, min: Option<f32>, max: Option<f32>) -> Option<f32> {
-        match (self, min, max) {
-            (Some(base), Some(min), Some(max)) => Some(f32_max(f32_min(base, max), min)),
-            (Some(base), None, Some(max)) => Some(f32_min(base, max)),
-            (Some(base), Some(min), None) => Some(f32_max(base, min)),
-            (Some(_), None, None) => self,
-            (None, _, _) => None,
-        }
+        self.map(|val| val.maybe_clamp(min, max))
     }
 
     fn maybe_add(self, rhs: Option<f32>) -> Option<f32> {
-        match (self, rhs) {
-            (Some(l), Some(r)) => Some(l + r),
-            (Some(_), None) => self,
-            (None, _) => None,
-        }
+        self.map(|val| val.maybe_add(rhs))
     }
 
     fn maybe_sub(self, rhs: Option<f32>) -> Option<f32> {
-        match (self, rhs) {
-            (Some(l), Some(r)) => Some(l - r),
-            (Some(_), None) => self,
-            (None, _) => None,
-        }
+        self.map(|val| val.maybe_sub(rhs))
     }
 }
 
@@ -137,40 +115,23 @@ impl MaybeMath<Option<f32>, f32> for f32 {
     ghost difference = { λ x o. unwrap_or (maybe_sub (Some x) o) x };
 
     fn maybe_min(self, rhs: Option<f32>) -> f32 {
-        match rhs {
-            Some(val) => f32_min(self, val),
-            None => self,
-        }
+        rhs.map_or(self, |val| f32_min(self, val))
     }
 
     fn maybe_max(self, rhs: Option<f32>) -> f32 {
-        match rhs {
-            Some(val) => f32_max(self, val),
-            None => self,
-        }
+        rhs.map_or(self, |val| f32_max(self, val))
     }
 
     fn maybe_clamp(self, min: Option<f32>, max: Option<f32>) -> f32 {
-        match (min, max) {
-            (Some(min), Some(max)) => f32_max(f32_min(self, max), min),
-            (None, Some(max)) => f32_min(self, max),
-            (Some(min), None) => f32_max(self, min),
-            (None, None) => self,
-        }
+        self.maybe_min(max).maybe_max(min)
     }
 
     fn maybe_add(self, rhs: Option<f32>) -> f32 {
-        match rhs {
-            Some(val) => self + val,
-            None => self,
-        }
+        rhs.map_or(self, |val| self + val)
     }
 
     fn maybe_sub(self, rhs: Option<f32>) -> f32 {
-        match rhs {
-            Some(val) => self - val,
-            None => self,
-        }
+        rhs.map_or(self, |val| self - val)
     }
 }
 
@@ -187,19 +148,14 @@ impl<In, Out, T: MaybeMath<In, Out>> MaybeMath<Size<In>, Size<Out>> for Size<T> 
     ghost difference = { zip_size T.MaybeMath.difference };
 
     fn maybe_min(self, rhs: Size<In>) -> Size<Out> {
-        Size {
-            width: self.width.maybe_min(rhs.width),
-            height: self.height.maybe_min(rhs.height),
-        }
+        self.zip_map(rhs, |x, y| x.maybe_min(y))
     }
 
     fn maybe_max(self, rhs: Size<In>) -> Size<Out> {
-        Size {
-            width: self.width.maybe_max(rhs.width),
-            height: self.height.maybe_max(rhs.height),
-        }
+        self.zip_map(rhs, |x, y| x.maybe_max(y))
     }
 
+    // By hand: with a pair of limits for each side, `zip_map` would take apart what it has just put together.
     fn maybe_clamp(self, min: Size<In>, max: Size<In>) -> Size<Out> {
         Size {
             width: self.width.maybe_clamp(min.width, max.width),
@@ -208,16 +164,10 @@ impl<In, Out, T: MaybeMath<In, Out>> MaybeMath<Size<In>, Size<Out>> for Size<T> 
     }
 
     fn maybe_add(self, rhs: Size<In>) -> Size<Out> {
-        Size {
-            width: self.width.maybe_add(rhs.width),
-            height: self.height.maybe_add(rhs.height),
-        }
+        self.zip_map(rhs, |x, y| x.maybe_add(y))
     }
 
     fn maybe_sub(self, rhs: Size<In>) -> Size<Out> {
-        Size {
-            width: self.width.maybe_sub(rhs.width),
-            height: self.height.maybe_sub(rhs.height),
-        }
+        self.zip_map(rhs, |x, y| x.maybe_sub(y))
     }
 }

@@ -1,11 +1,11 @@
 // Alignment of one axis of a described page, with what there is to say of it.
 ghost use Rattle.std.specs.Prelude.{◌≡◌};
-ghost use Rattle.geometry.specs.Shapes.{extent, sides};
+ghost use Rattle.geometry.specs.Shapes.{extent};
 ghost use Rattle.tracks.specs.Laws.{WellPlaced};
 ghost use Rattle.page_text.specs.Axes.{track_style, runs_back, shares, aligned_along, AxisInRange};
 
 use crate::page_description::ContainerDescription;
-use geometry::{AbsoluteAxis, Line, Rect};
+use geometry::AbsoluteAxis;
 use style::alignment::AlignContent;
 use tracks::grid_track::GridTrack;
 use tracks::track_alignment::TrackAlignment;
@@ -39,15 +39,6 @@ impl ContainerDescription {
     }
 }
 
-fn sides_along(rect: Rect<f32>, axis: AbsoluteAxis) -> Line<f32>
-    ensures { result ≡ sides axis rect }
-{
-    match axis {
-        AbsoluteAxis::Horizontal => rect.horizontal_components(),
-        AbsoluteAxis::Vertical => rect.vertical_components(),
-    }
-}
-
 // Aligns the tracks of one axis, and says how they share its free space.
 pub fn align_axis(
     container: &ContainerDescription,
@@ -64,8 +55,8 @@ pub fn align_axis(
     let asked = container.track_style(axis);
     let reversed = container.axis_is_reversed(axis);
     let alignment = TrackAlignment::of(content_size, tracks, asked, reversed);
-    let padding = sides_along(container.padding, axis);
-    let border = sides_along(container.border, axis);
+    let padding = container.padding.axis_components(axis);
+    let border = container.border.axis_components(axis);
     align_tracks(content_size, padding, border, tracks, asked, reversed);
     AxisAlignment {
         content_size,

@@ -3,7 +3,7 @@ ghost use Rattle.std.specs.Prelude.{◌≡◌, T};
 ghost use Rattle.style.specs.Alignment.{is_rtl, safe, default_stretch, reversed, self_relative};
 
 // The way in which a line of text runs.
-#[derive(Clone, Copy)]
+#[derive(Clone, Copy, Debug, PartialEq, Eq)]
 pub enum Direction {
     Ltr,
     Rtl,

@@ -6,7 +6,7 @@ use maybe_math::*;
 fn sums_of_sides(rt: HostRuntime) {
     let padding = Rect::<f32>::new(1.0, 2.0, 4.0, 8.0);
     let border = Rect::<f32>::new(16.0, 16.0, 32.0, 32.0);
-    let both = padding.plus(border).sum_axes();
+    let both = (padding + border).sum_axes();
     assert_eq!(rt; both.width, 35.0);
     assert_eq!(rt; both.height, 76.0);
     assert_eq!(rt; padding.grid_axis_sum(AbsoluteAxis::Vertical), 12.0);

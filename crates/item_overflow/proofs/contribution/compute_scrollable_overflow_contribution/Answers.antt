@@ -1,10 +1,7 @@
--- The law of the definition is the law of the result.
-use Rattle.std.proofs.Common.{sym, subst}
-use Rattle.item_overflow.specs.Laws.{Contributes}
+-- What the definition of the contribution keeps, the contribution keeps.
+use Rattle.std.proofs.Common.{rules}
 use Rattle.item_overflow.proofs.Reached.{contributes}
 use Rattle.item_overflow.proofs.contribution.compute_scrollable_overflow_contribution.Goals as goal
 
-pub returns : goal.returns
-returns c =
-    let e = c.contribution.ensures in
-    record { value = e; law = subst (Contributes c.args.container c.args.item) (sym e) (contributes c.args.container c.args.item) }
+pub returns-clause-law : goal.returns-clause-law
+returns-clause-law c = contributes _ _ _ (search rules)
