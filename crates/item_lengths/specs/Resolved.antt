@@ -42,39 +42,29 @@ length_percentage calc (lp.Calc h) basis = calculated calc h basis
 -- margins and insets: auto is absent
 abbrev pub length_percentage_auto : Calculation → LengthPercentageAuto → Float → Result (Option Float) CalcOutOfLimits
 length_percentage_auto calc lpa.Auto basis = Ok None
-length_percentage_auto calc (lpa.Px x) basis = Ok (Some x)
-length_percentage_auto calc (lpa.Percent f) basis = Ok (Some (percentage basis f))
-length_percentage_auto calc (lpa.Calc h) basis = present (calculated calc h basis)
+length_percentage_auto calc (lpa.Length length) basis = present (length_percentage calc length basis)
 
 -- sizes: a keyword is no definite size, and is absent
 abbrev pub dimension : Calculation → Dimension → Float → Result (Option Float) CalcOutOfLimits
 dimension calc dim.Auto basis = Ok None
 dimension calc dim.Content basis = Ok None
-dimension calc (dim.Px x) basis = Ok (Some x)
-dimension calc (dim.Percent f) basis = Ok (Some (percentage basis f))
-dimension calc (dim.Calc h) basis = present (calculated calc h basis)
+dimension calc (dim.Length length) basis = present (length_percentage calc length basis)
 dimension calc dim.MinContent basis = Ok None
 dimension calc dim.MaxContent basis = Ok None
 dimension calc dim.Stretch basis = Ok None
 dimension calc dim.FitContent basis = Ok None
-dimension calc (dim.FitContentPx x) basis = Ok None
-dimension calc (dim.FitContentPercent f) basis = Ok None
-dimension calc (dim.FitContentCalc h) basis = Ok None
+dimension calc (dim.FitContentFunction length) basis = Ok None
 
 -- the argument of `fit-content(..)`
 abbrev pub fit_content_argument : Calculation → Dimension → Float → Result (Option Float) CalcOutOfLimits
 fit_content_argument calc dim.Auto basis = Ok None
 fit_content_argument calc dim.Content basis = Ok None
-fit_content_argument calc (dim.Px x) basis = Ok None
-fit_content_argument calc (dim.Percent f) basis = Ok None
-fit_content_argument calc (dim.Calc h) basis = Ok None
+fit_content_argument calc (dim.Length length) basis = Ok None
 fit_content_argument calc dim.MinContent basis = Ok None
 fit_content_argument calc dim.MaxContent basis = Ok None
 fit_content_argument calc dim.Stretch basis = Ok None
 fit_content_argument calc dim.FitContent basis = Ok None
-fit_content_argument calc (dim.FitContentPx x) basis = Ok (Some x)
-fit_content_argument calc (dim.FitContentPercent f) basis = Ok (Some (percentage basis f))
-fit_content_argument calc (dim.FitContentCalc h) basis = present (calculated calc h basis)
+fit_content_argument calc (dim.FitContentFunction length) basis = present (length_percentage calc length basis)
 
 -- ---- several lengths, in the order of reading, up to the first that fails
 

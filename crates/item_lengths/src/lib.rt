@@ -4,7 +4,7 @@
 pub mod resolve;
 
 // A calculation whose result is out of limits, by its handle.
-#[derive(Clone, Copy)]
+#[derive(Clone, Copy, Debug, PartialEq, Eq)]
 pub struct CalcOutOfLimits {
     pub handle: u32,
 }

@@ -1,7 +1,7 @@
 // Resolving one length, the four of a Rect and the two of a Size.
 ghost use Rattle.std.specs.Prelude.{◌≡◌, ℕ, Result as Answer, Float};
 ghost use Rattle.item_lengths.specs.declared.CalcOutOfLimits.{CalcOutOfLimits as OutOfLimits};
-ghost use Rattle.item_lengths.specs.Resolved.{Calculation, calculated, present, length_percentage, length_percentage_auto, dimension, fit_content_argument, resolved_rect, resolved_size};
+ghost use Rattle.item_lengths.specs.Resolved.{Calculation, calculated, length_percentage, length_percentage_auto, dimension, fit_content_argument, resolved_rect, resolved_size};
 
 use crate::CalcOutOfLimits;
 use geometry::{Rect, Size};
@@ -9,6 +9,7 @@ use number::{in_limits, without_zero_sign};
 use style::length::{Dimension, LengthPercentage, LengthPercentageAuto};
 use tree::traits::LayoutPartialTree;
 
+// The basis goes to the host without a zero's sign.
 fn calculate<H: LayoutPartialTree>(
     handle: u32,
     basis: f32,
@@ -18,28 +19,13 @@ fn calculate<H: LayoutPartialTree>(
     ensures { result ≡ calculated (H.meaning host.now).means.calculates handle basis }
 {
     let number = host.calc(handle, without_zero_sign(basis));
-    if in_limits(number) {
-        Ok(number)
-    } else {
-        Err(CalcOutOfLimits { handle })
-    }
+    in_limits(number)
+        .then_some(number)
+        .ok_or(CalcOutOfLimits { handle })
 }
 
-fn calculate_some<H: LayoutPartialTree>(
-    handle: u32,
-    basis: f32,
-    host: &H,
-) -> Result<Option<f32>, CalcOutOfLimits>
-    requires { H.ordered host.now }
-    ensures { result ≡ present (calculated (H.meaning host.now).means.calculates handle basis) }
-{
-    match calculate(handle, basis, host) {
-        Ok(number) => Ok(Some(number)),
-        Err(fault) => Err(fault),
-    }
-}
-
-// A length that a basis turns into a number, or into a number that may be absent.
+// A length that a basis turns into a number, or into a number that may be absent. The basis stands beside the host, and not in
+// a struct with it: each side of a rectangle has its own basis.
 pub trait Resolve: Sized {
     type Output;
 
@@ -80,9 +66,7 @@ impl Resolve for LengthPercentageAuto {
     ) -> Result<Option<f32>, CalcOutOfLimits> {
         match self {
             LengthPercentageAuto::Auto => Ok(None),
-            LengthPercentageAuto::Px(x) => Ok(Some(x)),
-            LengthPercentageAuto::Percent(fraction) => Ok(Some(basis * fraction)),
-            LengthPercentageAuto::Calc(handle) => calculate_some(handle, basis, host),
+            LengthPercentageAuto::Length(length) => length.resolve(basis, host).map(Some),
         }
     }
 }
@@ -98,9 +82,7 @@ impl Resolve for Dimension {
         host: &H,
     ) -> Result<Option<f32>, CalcOutOfLimits> {
         match self {
-            Dimension::Px(x) => Ok(Some(x)),
-            Dimension::Percent(fraction) => Ok(Some(basis * fraction)),
-            Dimension::Calc(handle) => calculate_some(handle, basis, host),
+            Dimension::Length(length) => length.resolve(basis, host).map(Some),
             _ => Ok(None),
         }
     }
@@ -116,9 +98,7 @@ pub fn resolve_fit_content_argument<H: LayoutPartialTree>(
     ensures { result ≡ fit_content_argument (H.meaning host.now).means.calculates dimension basis }
 {
     match dimension {
-        Dimension::FitContentPx(x) => Ok(Some(x)),
-        Dimension::FitContentPercent(fraction) => Ok(Some(basis * fraction)),
-        Dimension::FitContentCalc(handle) => calculate_some(handle, basis, host),
+        Dimension::FitContentFunction(length) => length.resolve(basis, host).map(Some),
         _ => Ok(None),
     }
 }
@@ -134,21 +114,11 @@ where
     requires { H.LayoutPartialTree.ordered host.now }
     ensures { result ≡ resolved_rect (L.Resolve.resolved (H.LayoutPartialTree.meaning host.now).means.calculates) rect basis }
 {
-    let Rect {
-        left,
-        right,
-        top,
-        bottom,
-    } = rect;
-    let left = left.resolve(basis.width, host)?;
-    let right = right.resolve(basis.width, host)?;
-    let top = top.resolve(basis.height, host)?;
-    let bottom = bottom.resolve(basis.height, host)?;
     Ok(Rect {
-        left,
-        right,
-        top,
-        bottom,
+        left: rect.left.resolve(basis.width, host)?,
+        right: rect.right.resolve(basis.width, host)?,
+        top: rect.top.resolve(basis.height, host)?,
+        bottom: rect.bottom.resolve(basis.height, host)?,
     })
 }
 
@@ -163,8 +133,8 @@ where
     requires { H.LayoutPartialTree.ordered host.now }
     ensures { result ≡ resolved_size (L.Resolve.resolved (H.LayoutPartialTree.meaning host.now).means.calculates) size basis }
 {
-    let Size { width, height } = size;
-    let width = width.resolve(basis.width, host)?;
-    let height = height.resolve(basis.height, host)?;
-    Ok(Size { width, height })
+    Ok(Size {
+        width: size.width.resolve(basis.width, host)?,
+        height: size.height.resolve(basis.height, host)?,
+    })
 }

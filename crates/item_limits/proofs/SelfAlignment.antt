@@ -1,6 +1,6 @@
 -- An alignment in the words of the container has no self-relative keyword, and is otherwise kept.
 use Rattle.std.proofs.Common.{◌≡◌, Bool, true, false, not, T, refl}
-use Rattle.style.specs.declared.alignment.AlignItems.{AlignItems}
+use Rattle.style.specs.Alignment.{AlignItems}
 use Rattle.style.specs.declared.alignment.AlignItemsKeyword.{AlignItemsKeyword}
 use Rattle.style.specs.declared.alignment.AlignItemsKeyword.TheVariants as item
 use Rattle.style.specs.declared.alignment.Direction.{Direction}

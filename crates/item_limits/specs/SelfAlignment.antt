@@ -3,7 +3,7 @@ use Rattle.std.specs.Prelude.{◌≡◌, Bool, true, false, not, ◌&&◌, ◌||
 use Rattle.std.specs.Option.{unwrap_or}
 use Rattle.geometry.specs.declared.AbsoluteAxis.{AbsoluteAxis}
 use Rattle.geometry.specs.declared.AbsoluteAxis.TheVariants.{Horizontal, Vertical}
-use Rattle.style.specs.declared.alignment.AlignItems.{AlignItems}
+use Rattle.style.specs.Alignment.{AlignItems}
 use Rattle.style.specs.declared.alignment.AlignItemsKeyword.{AlignItemsKeyword}
 use Rattle.style.specs.declared.alignment.AlignItemsKeyword.TheVariants as item
 use Rattle.style.specs.declared.alignment.Direction.{Direction}

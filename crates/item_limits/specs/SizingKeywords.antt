@@ -2,6 +2,7 @@
 use Rattle.std.specs.Prelude.{Some, None, Option, Float}
 use Rattle.style.specs.declared.length.Dimension.{Dimension}
 use Rattle.style.specs.declared.length.Dimension.TheVariants as size
+use Rattle.style.specs.declared.length.LengthPercentage.TheVariants as lp
 use Rattle.style.specs.declared.length.AvailableSpace.TheVariants as space
 use Rattle.item_limits.specs.declared.sizing_keyword.SizingKeywordResolution.{SizingKeywordResolution}
 use Rattle.item_limits.specs.declared.sizing_keyword.SizingKeywordResolution.TheVariants.{Measure, Exact}
@@ -18,13 +19,11 @@ exactly None = None
 abbrev pub sizing_keyword_resolution : Dimension → (stretch_fit limit : Option Float) → Option SizingKeywordResolution
 sizing_keyword_resolution size.Auto stretch_fit limit = None
 sizing_keyword_resolution size.Content stretch_fit limit = None
-sizing_keyword_resolution (size.Px x) stretch_fit limit = None
-sizing_keyword_resolution (size.Percent x) stretch_fit limit = None
-sizing_keyword_resolution (size.Calc handle) stretch_fit limit = None
+sizing_keyword_resolution (size.Length length) stretch_fit limit = None
 sizing_keyword_resolution size.MinContent stretch_fit limit = Some (Measure space.MinContent)
 sizing_keyword_resolution size.MaxContent stretch_fit limit = Some (Measure space.MaxContent)
 sizing_keyword_resolution size.Stretch stretch_fit limit = exactly stretch_fit
 sizing_keyword_resolution size.FitContent stretch_fit limit = measured_within stretch_fit
-sizing_keyword_resolution (size.FitContentPx x) stretch_fit limit = measured_within (Some x)
-sizing_keyword_resolution (size.FitContentPercent x) stretch_fit limit = measured_within limit
-sizing_keyword_resolution (size.FitContentCalc handle) stretch_fit limit = measured_within limit
+sizing_keyword_resolution (size.FitContentFunction (lp.Px x)) stretch_fit limit = measured_within (Some x)
+sizing_keyword_resolution (size.FitContentFunction (lp.Percent x)) stretch_fit limit = measured_within limit
+sizing_keyword_resolution (size.FitContentFunction (lp.Calc handle)) stretch_fit limit = measured_within limit

@@ -2,7 +2,7 @@
 ghost use Rattle.std.specs.Prelude.{◌≡◌};
 ghost use Rattle.item_limits.specs.SizingKeywords.{measured_within, sizing_keyword_resolution};
 
-use style::length::{AvailableSpace, Dimension};
+use style::length::{AvailableSpace, Dimension, LengthPercentage};
 
 // How a sizing keyword becomes a size.
 #[derive(Clone, Copy)]
@@ -34,10 +34,8 @@ pub fn resolve_sizing_keyword(
     match style {
         Dimension::MinContent => Some(SizingKeywordResolution::Measure(AvailableSpace::MinContent)),
         Dimension::MaxContent => Some(SizingKeywordResolution::Measure(AvailableSpace::MaxContent)),
-        Dimension::FitContentPx(limit) => measure_within(Some(limit)),
-        Dimension::FitContentPercent(_) | Dimension::FitContentCalc(_) => measure_within(
-            fit_content_limit,
-        ),
+        Dimension::FitContentFunction(LengthPercentage::Px(limit)) => measure_within(Some(limit)),
+        Dimension::FitContentFunction(_) => measure_within(fit_content_limit),
         Dimension::FitContent => measure_within(stretch_fit),
         Dimension::Stretch => match stretch_fit {
             Some(size) => Some(SizingKeywordResolution::Exact(size)),

@@ -3,7 +3,7 @@ use Rattle.std.specs.Prelude.{Bool, Some, None, Option, Float}
 use Rattle.std.specs.Float.{binary32}
 use Rattle.std.specs.Float.Ieee.{add, sub, div, lt}
 use Rattle.geometry.specs.declared.Line.{Line}
-use Rattle.style.specs.declared.alignment.AlignItems.{AlignItems}
+use Rattle.style.specs.Alignment.{AlignItems}
 use Rattle.item_placing.specs.Edges.{aligned_edge, overflow_position, keyword_on_overflow}
 use Rattle.item_placing.specs.Blocks.{length_of, both_set, direction_of, insets_of, block_of}
 use Rattle.item_placing.specs.Margins.{two, set_size, used_margins}

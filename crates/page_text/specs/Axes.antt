@@ -4,7 +4,7 @@ use Rattle.geometry.specs.Shapes.{extent, sides}
 use Rattle.geometry.specs.declared.AbsoluteAxis.{AbsoluteAxis}
 use Rattle.geometry.specs.declared.AbsoluteAxis.TheVariants.{Horizontal, Vertical}
 use Rattle.style.specs.Alignment.{is_rtl}
-use Rattle.style.specs.declared.alignment.AlignContent.{AlignContent}
+use Rattle.style.specs.Alignment.{AlignContent}
 use Rattle.tracks.specs.Laws.{InRange}
 use Rattle.tracks.specs.Tracks.{plus, track_alignment, aligned}
 use Rattle.tracks.specs.declared.grid_track.GridTrack.{GridTrack}

@@ -6,7 +6,7 @@ use Rattle.geometry.specs.declared.Rect.{Rect}
 use Rattle.style.specs.declared.alignment.Direction.{Direction}
 use Rattle.style.specs.declared.alignment.Direction.TheVariants.{Ltr}
 use Rattle.style.specs.declared.alignment.AlignmentSafety.TheVariants.{Default}
-use Rattle.style.specs.declared.alignment.AlignContent.{AlignContent}
+use Rattle.style.specs.Alignment.{AlignContent}
 use Rattle.style.specs.declared.alignment.AlignContentKeyword.TheVariants.{Stretch}
 use Rattle.page_words.specs.WrittenSizes.{size_read}
 use Rattle.page_words.specs.Keywords.{meaning_of, directions}

@@ -1,7 +1,7 @@
 -- The range of what a container says: its sizes, its sides and its alignments.
 use Rattle.std.specs.Prelude.{Bool, true, false, T, Float}
 use Rattle.geometry.specs.declared.Rect.{Rect}
-use Rattle.style.specs.declared.alignment.AlignContent.{AlignContent}
+use Rattle.style.specs.Alignment.{AlignContent}
 use Rattle.style.specs.declared.alignment.AlignContentKeyword.{AlignContentKeyword}
 use Rattle.style.specs.declared.alignment.AlignContentKeyword.TheVariants.{Normal, Start, End, FlexStart, FlexEnd, Center, Stretch, SpaceBetween, SpaceEvenly, SpaceAround}
 use Rattle.page_words.specs.WrittenSizes.{size_in_range}

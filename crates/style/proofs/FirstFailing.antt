@@ -1,56 +1,50 @@
--- The first of a list that fails a test: group by group, and what it says of the whole list.
-use Rattle.std.proofs.Common.{◌≡◌, ℕ, zero, suc, Bool, true, false, cond, T, List, [], ◌∷◌, ◌++◌, map, drop, Some, None, Option, refl, ap, arith}
-use Rattle.style.specs.FirstFailing.{first_failing, or_rest, Every, FailsFirst}
+-- The first of a list that fails a test: under other names, and what it says of the whole list.
+use Rattle.std.proofs.Common.{◌≡◌, Bool, true, false, not, cond, T, List, [], ◌∷◌, map, Some, None, refl, ap, arith}
+use Rattle.std.specs.List.{All}
+use Rattle.std.specs.Option.{option_map}
+use Rattle.std.proofs.lemmas.List.Elements.{All-nil, All-cons, All-head, All-tail}
+use Rattle.style.specs.FirstFailing.{first_failing, FailsFirst}
 
-pub group : {X Y : Type 0} (passes : Y → Bool) (f : X → Y) (xs : List X) (ys : List Y) (rest : Option Y) → first_failing passes ys ≡ rest
-    → first_failing passes (map f xs ++ ys) ≡ or_rest f (first_failing (λ x. passes (f x)) xs) rest
-group passes f [] ys rest e = e
-group passes f (x ∷ xs) ys rest e =
-    elim (passes (f x)) as (λ b. cond b (first_failing passes (map f xs ++ ys)) (Some (f x)) ≡ or_rest f (cond b (first_failing (λ x. passes (f x)) xs) (Some x)) rest) [
-      | true ↦ group passes f xs ys rest e
-      | false ↦ refl
-    ]
+pub renamed : {X Y : Type 0} (passes : Y → Bool) (f : X → Y) (xs : List X)
+    → first_failing passes (map f xs) ≡ option_map f (first_failing (λ x. passes (f x)) xs)
+renamed passes f [] = refl
+renamed passes f (x ∷ xs) = let h = renamed passes f xs in grind arith
 
-pub every : {X : Type 0} (passes : X → Bool) (xs : List X) → ((x : X) → T (passes x)) → Every passes xs
-every passes [] h = tt
-every passes (x ∷ xs) h = (h x, every passes xs h)
+passes_when : {X : Type 0} (passes : X → Bool) (x : X) → passes x ≡ true → T (passes x)
+passes_when passes x e = rw e tt
 
-pub every_later : {X : Type 0} (passes : X → Bool) (n : ℕ) (xs : List X) → Every passes xs → Every passes (drop n xs)
-every_later passes zero xs h = h
-every_later passes (suc n) [] h = tt
-every_later passes (suc n) (x ∷ xs) h = every_later passes n xs h.1
+pub none_fails : {X : Type 0} (passes : X → Bool) (xs : List X) → first_failing passes xs ≡ None → All (λ x. T (passes x)) xs
+none_fails passes [] e = All-nil (λ x. T (passes x))
+none_fails passes (x ∷ xs) e =
+    let here : passes x ≡ true = grind arith in
+    let rest : first_failing passes xs ≡ None = grind arith in
+    All-cons (λ y. T (passes y)) x xs (passes_when passes x here) (none_fails passes xs rest)
 
-some_not_none : {X : Type 0} (x : X) → Some x ≡ None → ⊥
-some_not_none x e = let z : ◌≡◌ {A = ℕ} 0 1 = cc in omega arith
-
-pub none_fails : {X : Type 0} (passes : X → Bool) (xs : List X) → first_failing passes xs ≡ None → Every passes xs
-none_fails passes [] e = tt
-none_fails passes (x ∷ xs) e = at_head (passes x) (none_fails passes xs) e
-  where
-    at_head : (b : Bool) → (first_failing passes xs ≡ None → Every passes xs) → cond b (first_failing passes xs) (Some x) ≡ None → T b × Every passes xs
-    at_head true rest h = (tt, rest h)
-    at_head false rest h = absurd (some_not_none x h)
-
-pub all_pass : {X : Type 0} (passes : X → Bool) (xs : List X) → Every passes xs → first_failing passes xs ≡ None
+pub all_pass : {X : Type 0} (passes : X → Bool) (xs : List X) → All (λ x. T (passes x)) xs → first_failing passes xs ≡ None
 all_pass passes [] h = refl
-all_pass passes (x ∷ xs) h = at_head (passes x) h.0 (all_pass passes xs h.1)
-  where
-    at_head : (b : Bool) → T b → first_failing passes xs ≡ None → cond b (first_failing passes xs) (Some x) ≡ None
-    at_head true t rest = rest
-    at_head false t rest = absurd t
+all_pass passes (x ∷ xs) h =
+    let here = All-head (λ y. T (passes y)) x xs h in
+    let rest = all_pass passes xs (All-tail (λ y. T (passes y)) x xs h) in
+    grind arith
 
 -- what holds of a list holds with one more that passes in front
 one_more : {X : Type 0} (passes : X → Bool) (x y : X) (xs : List X) → T (passes x) → FailsFirst passes xs y → FailsFirst passes (x ∷ xs) y
 one_more passes x y xs t h =
-    record { before = x ∷ h.before; after = h.after; order = ap (λ zs. x ∷ zs) h.order; all_before_pass = (t, h.all_before_pass); fails = h.fails }
+    record {
+      before = x ∷ h.before;
+      after = h.after;
+      order = ap (λ zs. x ∷ zs) h.order;
+      all_before_pass = All-cons (λ z. T (passes z)) x h.before t h.all_before_pass;
+      fails = h.fails;
+    }
 
 pub named_first : {X : Type 0} (passes : X → Bool) (xs : List X) (y : X) → first_failing passes xs ≡ Some y → FailsFirst passes xs y
-named_first passes [] y e = let z : ◌≡◌ {A = ℕ} 0 1 = cc in absurd (omega arith)
+named_first passes [] y e = cc
 named_first passes (x ∷ xs) y e = at_head (passes x) refl (named_first passes xs y) e
   where
     at_head : (b : Bool) → passes x ≡ b → (first_failing passes xs ≡ Some y → FailsFirst passes xs y)
-        → cond b (first_failing passes xs) (Some x) ≡ Some y → FailsFirst passes (x ∷ xs) y
+        → cond (not b) (Some x) (first_failing passes xs) ≡ Some y → FailsFirst passes (x ∷ xs) y
     at_head true p rest h = one_more passes x y xs (rw p tt) (rest h)
     at_head false p rest h =
         let same : x ≡ y = cc in
-        record { before = []; after = xs; order = ap (λ z. z ∷ xs) same; all_before_pass = tt; fails = rw (← same) p }
+        record { before = []; after = xs; order = ap (λ z. z ∷ xs) same; all_before_pass = All-nil (λ z. T (passes z)); fails = rw (← same) p }

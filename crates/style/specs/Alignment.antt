@@ -4,11 +4,19 @@ use Rattle.style.specs.declared.alignment.Direction.{Direction}
 use Rattle.style.specs.declared.alignment.Direction.TheVariants.{Ltr, Rtl}
 use Rattle.style.specs.declared.alignment.AlignmentSafety.{AlignmentSafety}
 use Rattle.style.specs.declared.alignment.AlignmentSafety.TheVariants.{Default, Unsafe, Safe}
-use Rattle.style.specs.declared.alignment.AlignItems.{AlignItems}
+use Rattle.style.specs.declared.alignment.Alignment.{Alignment}
 use Rattle.style.specs.declared.alignment.AlignItemsKeyword.{AlignItemsKeyword}
 use Rattle.style.specs.declared.alignment.AlignItemsKeyword.TheVariants as item
 use Rattle.style.specs.declared.alignment.AlignContentKeyword.{AlignContentKeyword}
 use Rattle.style.specs.declared.alignment.AlignContentKeyword.TheVariants as content
+
+-- the alignment of an item
+abbrev pub AlignItems : Type 0
+AlignItems = Alignment AlignItemsKeyword
+
+-- the alignment of tracks
+abbrev pub AlignContent : Type 0
+AlignContent = Alignment AlignContentKeyword
 
 abbrev pub is_rtl : Direction → Bool
 is_rtl Ltr = false

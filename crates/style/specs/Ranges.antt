@@ -1,5 +1,5 @@
 -- The range of each number of a style, and the first value of a style that is out of its own.
-use Rattle.std.specs.Prelude.{◌≡◌, Bool, true, cond, ◌&&◌, T, List, [], ◌∷◌, ◌++◌, map, Some, None, Option, from_bits, Float}
+use Rattle.std.specs.Prelude.{◌≡◌, Bool, true, ◌&&◌, T, List, [], ◌∷◌, ◌++◌, map, Some, None, Option, from_bits, Float}
 use Rattle.std.specs.Float.{binary32}
 use Rattle.std.specs.Float.Ieee.{le, neg}
 use Rattle.number.specs.Limits.{in_limits}
@@ -7,7 +7,7 @@ use Rattle.geometry.specs.Shapes.{extent}
 use Rattle.geometry.specs.declared.AbsoluteAxis.{AbsoluteAxis}
 use Rattle.geometry.specs.declared.AbsoluteAxis.TheVariants.{Horizontal, Vertical}
 use Rattle.geometry.specs.declared.Rect.{Rect}
-use Rattle.style.specs.FirstFailing.{first_failing, or_rest, FailsFirst}
+use Rattle.style.specs.FirstFailing.{first_failing, FailsFirst}
 use Rattle.style.specs.declared.length.LengthPercentage.{LengthPercentage}
 use Rattle.style.specs.declared.length.LengthPercentage.TheVariants as lp
 use Rattle.style.specs.declared.length.LengthPercentageAuto.{LengthPercentageAuto}
@@ -47,23 +47,17 @@ length_percentage_in_range (lp.Calc handle) = true
 
 abbrev pub length_percentage_auto_in_range : LengthPercentageAuto → Bool
 length_percentage_auto_in_range lpa.Auto = true
-length_percentage_auto_in_range (lpa.Px x) = in_limits x
-length_percentage_auto_in_range (lpa.Percent x) = fraction_in_range x
-length_percentage_auto_in_range (lpa.Calc handle) = true
+length_percentage_auto_in_range (lpa.Length length) = length_percentage_in_range length
 
 abbrev pub dimension_in_range : Dimension → Bool
 dimension_in_range dim.Auto = true
 dimension_in_range dim.Content = true
-dimension_in_range (dim.Px x) = in_limits x
-dimension_in_range (dim.Percent x) = fraction_in_range x
-dimension_in_range (dim.Calc handle) = true
+dimension_in_range (dim.Length length) = length_percentage_in_range length
 dimension_in_range dim.MinContent = true
 dimension_in_range dim.MaxContent = true
 dimension_in_range dim.Stretch = true
 dimension_in_range dim.FitContent = true
-dimension_in_range (dim.FitContentPx x) = in_limits x
-dimension_in_range (dim.FitContentPercent x) = fraction_in_range x
-dimension_in_range (dim.FitContentCalc handle) = true
+dimension_in_range (dim.FitContentFunction length) = length_percentage_in_range length
 
 abbrev pub sides : List Side
 sides = Left ∷ Right ∷ Top ∷ Bottom ∷ []
@@ -101,19 +95,6 @@ reading_order =
 
 unfoldable pub first_out_of_range : Style → Option StyleField
 first_out_of_range s = first_failing (field_in_range s) reading_order
-
--- the same, value by value and then group by group
-abbrev pub first_by_groups : Style → Option StyleField
-first_by_groups s =
-    cond (in_limits s.scrollbar_width) (cond (if_any ratio_in_range s.aspect_ratio)
-    (or_rest field.Inset (first_failing (λ side. length_percentage_auto_in_range (side_of s.inset side)) sides)
-    (or_rest field.Padding (first_failing (λ side. length_percentage_in_range (side_of s.padding side)) sides)
-    (or_rest field.Border (first_failing (λ side. length_percentage_in_range (side_of s.border side)) sides)
-    (or_rest field.Size (first_failing (λ axis. dimension_in_range (extent axis s.size)) axes)
-    (or_rest field.MinSize (first_failing (λ axis. dimension_in_range (extent axis s.min_size)) axes)
-    (or_rest field.MaxSize (first_failing (λ axis. dimension_in_range (extent axis s.max_size)) axes)
-    (or_rest field.Margin (first_failing (λ side. length_percentage_auto_in_range (side_of s.margin side)) sides) None)))))))
-    (Some field.AspectRatio)) (Some field.ScrollbarWidth)
 
 -- what the answer says: none, exactly if every number of the style is in its range; one, if it is out of its range and all that are read before it are in theirs
 pub record NamesFirst (s : Style) (r : Option StyleField) : Type 0 where

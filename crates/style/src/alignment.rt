@@ -13,12 +13,12 @@ impl Direction {
     pub fn is_rtl(self) -> bool
         ensures { result ≡ is_rtl self }
     {
-        matches!(self, Direction::Rtl)
+        self == Direction::Rtl
     }
 }
 
 // Where an item stands within its area.
-#[derive(Clone, Copy)]
+#[derive(Clone, Copy, Debug, PartialEq, Eq)]
 pub enum AlignItemsKeyword {
     Normal,
     Start,
@@ -33,7 +33,7 @@ pub enum AlignItemsKeyword {
 }
 
 // How the tracks of an axis share out the space that they leave.
-#[derive(Clone, Copy)]
+#[derive(Clone, Copy, Debug, PartialEq, Eq)]
 pub enum AlignContentKeyword {
     Normal,
     Start,
@@ -48,27 +48,43 @@ pub enum AlignContentKeyword {
 }
 
 // The overflow position: a safe alignment gives way to start where the subject overflows its container.
-#[derive(Clone, Copy)]
+#[derive(Clone, Copy, Debug, PartialEq, Eq)]
 pub enum AlignmentSafety {
     Default,
     Unsafe,
     Safe,
 }
 
-// The alignment of an item: `align-items`, `align-self`, `justify-items`, `justify-self`.
-#[derive(Clone, Copy)]
-pub struct AlignItems {
-    pub keyword: AlignItemsKeyword,
+// A keyword, and the overflow position that goes with it.
+#[derive(Clone, Copy, Debug, PartialEq, Eq)]
+pub struct Alignment<K> {
+    pub keyword: K,
     pub safety: AlignmentSafety,
 }
+
+// The alignment of an item: `align-items`, `align-self`, `justify-items`, `justify-self`.
+pub type AlignItems = Alignment<AlignItemsKeyword>;
 
 // The alignment of tracks: `align-content`, `justify-content`.
-#[derive(Clone, Copy)]
-pub struct AlignContent {
-    pub keyword: AlignContentKeyword,
-    pub safety: AlignmentSafety,
+pub type AlignContent = Alignment<AlignContentKeyword>;
+
+impl<K: Drop> Alignment<K> {
+    pub fn is_safe(self) -> bool
+        ensures { result ≡ safe self.safety }
+    {
+        self.safety == AlignmentSafety::Safe
+    }
+
+    // This keyword, with the overflow position given.
+    pub fn with_safety(self, safety: AlignmentSafety) -> Self
+        ensures keyword { result.keyword ≡ self.keyword }
+        ensures safety { result.safety ≡ safety }
+    {
+        Alignment { safety, ..self }
+    }
 }
 
+// Each constant is spelled out for both properties: a constant's value may call no function, not even a `const fn`.
 impl AlignItems {
     pub const NORMAL: AlignItems = AlignItems {
         keyword: AlignItemsKeyword::Normal,
@@ -95,41 +111,18 @@ impl AlignItems {
         safety: AlignmentSafety::Default,
     };
 
-    pub fn is_safe(self) -> bool
-        ensures { result ≡ safe self.safety }
-    {
-        matches!(self.safety, AlignmentSafety::Safe)
-    }
-
-    // This keyword, with the overflow position given.
-    pub fn with_safety(self, safety: AlignmentSafety) -> AlignItems
-        ensures keyword { result.keyword ≡ self.keyword }
-        ensures safety { result.safety ≡ safety }
-    {
-        AlignItems {
-            keyword: self.keyword,
-            safety,
-        }
-    }
-
     // The same keyword, with the same overflow position.
     pub fn is_same(self, other: AlignItems) -> bool
         ensures { (T result → self ≡ other) × (self ≡ other → T result) }
     {
-        self.keyword as u8 == other.keyword as u8 && self.safety as u8 == other.safety as u8
+        self == other
     }
 
     // Equal to `AlignItems::STRETCH`: an overflow position makes it another alignment.
     pub fn is_stretch(self) -> bool
         ensures { result ≡ default_stretch self }
     {
-        matches!(
-            self,
-            AlignItems {
-                keyword: AlignItemsKeyword::Stretch,
-                safety: AlignmentSafety::Default
-            }
-        )
+        self == AlignItems::STRETCH
     }
 
     // `self-start` and `self-end` by the item's own direction, which counts in the inline axis alone; all else unchanged.
@@ -141,28 +134,17 @@ impl AlignItems {
     ) -> AlignItems
         ensures { result ≡ self_relative self item_direction container_direction axis_is_inline }
     {
-        let flip = axis_is_inline && item_direction.is_rtl() != container_direction.is_rtl();
-        let keyword = match self.keyword {
-            AlignItemsKeyword::SelfStart => {
-                if flip {
-                    AlignItemsKeyword::End
-                } else {
-                    AlignItemsKeyword::Start
-                }
+        let flip = axis_is_inline && item_direction != container_direction;
+        let keyword = match (self.keyword, flip) {
+            (AlignItemsKeyword::SelfStart, false) | (AlignItemsKeyword::SelfEnd, true) => {
+                AlignItemsKeyword::Start
             }
-            AlignItemsKeyword::SelfEnd => {
-                if flip {
-                    AlignItemsKeyword::Start
-                } else {
-                    AlignItemsKeyword::End
-                }
+            (AlignItemsKeyword::SelfStart, true) | (AlignItemsKeyword::SelfEnd, false) => {
+                AlignItemsKeyword::End
             }
-            other => other,
+            (other, _) => other,
         };
-        AlignItems {
-            keyword,
-            safety: self.safety,
-        }
+        Alignment { keyword, ..self }
     }
 }
 
@@ -207,16 +189,4 @@ impl AlignContent {
         keyword: AlignContentKeyword::Stretch,
         safety: AlignmentSafety::Default,
     };
-
-    pub fn is_safe(self) -> bool
-        ensures { result ≡ safe self.safety }
-    {
-        matches!(
-            self,
-            AlignContent {
-                safety: AlignmentSafety::Safe,
-                ..
-            }
-        )
-    }
 }

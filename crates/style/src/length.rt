@@ -2,8 +2,8 @@
 ghost use Rattle.std.specs.Prelude.{◌≡◌};
 ghost use Rattle.style.specs.Lengths.{auto_length, auto_dimension, sizing_keyword};
 
-// A padding or a border. A percentage is a fraction, 1.0 for 100%; a calculation goes by the handle that its host knows.
-#[derive(Clone, Copy)]
+// A padding or a border: the production `<length-percentage>`. A percentage is a fraction, 1.0 for 100%; a calculation goes by the handle that its host knows.
+#[derive(Clone, Copy, Debug, PartialEq)]
 pub enum LengthPercentage {
     Px(f32),
     Percent(f32),
@@ -11,12 +11,10 @@ pub enum LengthPercentage {
 }
 
 // A margin or an inset.
-#[derive(Clone, Copy)]
+#[derive(Clone, Copy, Debug, PartialEq)]
 pub enum LengthPercentageAuto {
     Auto,
-    Px(f32),
-    Percent(f32),
-    Calc(u32),
+    Length(LengthPercentage),
 }
 
 impl LengthPercentageAuto {
@@ -27,21 +25,18 @@ impl LengthPercentageAuto {
     }
 }
 
-// A size, a minimum size or a maximum size, per CSS Sizing 3 and 4. `FitContent` is the keyword, the other three are `fit-content(..)`.
-#[derive(Clone, Copy)]
+// A size, a minimum size or a maximum size, per CSS Sizing 3 and 4. `FitContent` is the keyword, `FitContentFunction` is
+// `fit-content(<length-percentage>)`.
+#[derive(Clone, Copy, Debug, PartialEq)]
 pub enum Dimension {
     Auto,
     Content,
-    Px(f32),
-    Percent(f32),
-    Calc(u32),
+    Length(LengthPercentage),
     MinContent,
     MaxContent,
     Stretch,
     FitContent,
-    FitContentPx(f32),
-    FitContentPercent(f32),
-    FitContentCalc(u32),
+    FitContentFunction(LengthPercentage),
 }
 
 impl Dimension {
@@ -55,19 +50,19 @@ impl Dimension {
     pub fn is_sizing_keyword(self) -> bool
         ensures { result ≡ sizing_keyword self }
     {
-        match self {
-            Dimension::Auto
-            | Dimension::Content
-            | Dimension::Px(_)
-            | Dimension::Percent(_)
-            | Dimension::Calc(_) => false,
-            _ => true,
-        }
+        matches!(
+            self,
+            Dimension::MinContent
+                | Dimension::MaxContent
+                | Dimension::Stretch
+                | Dimension::FitContent
+                | Dimension::FitContentFunction(_)
+        )
     }
 }
 
 // The space in which a box is measured: so much, or as little or as much as its content asks for.
-#[derive(Clone, Copy)]
+#[derive(Clone, Copy, Debug, PartialEq)]
 pub enum AvailableSpace {
     Definite(f32),
     MinContent,

@@ -5,7 +5,7 @@ ghost use Rattle.style.specs.Modes.{out_of_flow, scroll_container, requested};
 use geometry::AbsoluteAxis;
 
 // Per CSS Positioned Layout 3.
-#[derive(Clone, Copy)]
+#[derive(Clone, Copy, Debug, PartialEq, Eq)]
 pub enum Position {
     Static,
     Relative,
@@ -24,7 +24,7 @@ impl Position {
 }
 
 // What becomes of content beyond a box along one axis, per CSS Overflow 3.
-#[derive(Clone, Copy)]
+#[derive(Clone, Copy, Debug, PartialEq, Eq)]
 pub enum Overflow {
     Visible,
     Clip,
@@ -37,15 +37,12 @@ impl Overflow {
     pub fn is_scroll_container(self) -> bool
         ensures { result ≡ scroll_container self }
     {
-        match self {
-            Overflow::Visible | Overflow::Clip => false,
-            Overflow::Hidden | Overflow::Scroll => true,
-        }
+        matches!(self, Overflow::Hidden | Overflow::Scroll)
     }
 }
 
 // The containments of CSS Containment 2 that count in layout.
-#[derive(Clone, Copy)]
+#[derive(Clone, Copy, Debug, PartialEq, Eq)]
 pub struct Contain {
     pub layout: bool,
     pub paint: bool,
@@ -81,21 +78,21 @@ impl Contain {
 }
 
 // Which box a size speaks of, per CSS Sizing 3.
-#[derive(Clone, Copy)]
+#[derive(Clone, Copy, Debug, PartialEq, Eq)]
 pub enum BoxSizing {
     BorderBox,
     ContentBox,
 }
 
 // Whether a measurement goes by the content alone, or by the sizes of the style too.
-#[derive(Clone, Copy)]
+#[derive(Clone, Copy, Debug, PartialEq, Eq)]
 pub enum SizingMode {
     ContentSize,
     InherentSize,
 }
 
 // The axes that a measurement is asked for.
-#[derive(Clone, Copy)]
+#[derive(Clone, Copy, Debug, PartialEq, Eq)]
 pub enum RequestedAxis {
     Horizontal,
     Vertical,

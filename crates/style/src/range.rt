@@ -1,7 +1,7 @@
 // The ranges that the numbers of a style keep, and the first value of a style, in the order of reading, that is out of its own.
 ghost use Rattle.std.specs.Prelude.{◌≡◌, Bool};
 ghost use Rattle.style.specs.Ranges.{fraction_in_range, ratio_in_range, if_any, length_percentage_in_range, length_percentage_auto_in_range, dimension_in_range};
-ghost use Rattle.style.specs.Ranges.{side_of, sides, axes, first_out_of_range, first_by_groups, NamesFirst};
+ghost use Rattle.style.specs.Ranges.{side_of, sides, axes, first_out_of_range, NamesFirst};
 ghost use Rattle.geometry.specs.Shapes.{extent};
 ghost use Rattle.style.specs.FirstFailing.{first_failing};
 
@@ -10,7 +10,7 @@ use crate::style::Style;
 use geometry::{AbsoluteAxis, Rect, Size};
 
 // A side of a box.
-#[derive(Clone, Copy)]
+#[derive(Clone, Copy, Debug, PartialEq, Eq)]
 pub enum Side {
     Left,
     Right,
@@ -43,10 +43,7 @@ pub fn percent_in_range(fraction: f32) -> bool
 pub fn aspect_ratio_in_range(ratio: Option<f32>) -> bool
     ensures { result ≡ if_any ratio_in_range ratio }
 {
-    match ratio {
-        Some(ratio) => 0.0009765625 <= ratio && ratio <= 1024.0,
-        None => true,
-    }
+    ratio.is_none_or(|ratio| 0.0009765625 <= ratio && ratio <= 1024.0)
 }
 
 // A length whose number, if it has one, can be out of range. A calculation has none, and no keyword has.
@@ -74,9 +71,8 @@ impl InRange for LengthPercentageAuto {
 
     fn in_range(&self) -> bool {
         match *self {
-            LengthPercentageAuto::Px(x) => number::in_limits(x),
-            LengthPercentageAuto::Percent(x) => percent_in_range(x),
-            LengthPercentageAuto::Auto | LengthPercentageAuto::Calc(_) => true,
+            LengthPercentageAuto::Auto => true,
+            LengthPercentageAuto::Length(length) => length.in_range(),
         }
     }
 }
@@ -86,10 +82,31 @@ impl InRange for Dimension {
 
     fn in_range(&self) -> bool {
         match *self {
-            Dimension::Px(x) | Dimension::FitContentPx(x) => number::in_limits(x),
-            Dimension::Percent(x) | Dimension::FitContentPercent(x) => percent_in_range(x),
+            Dimension::Length(length) | Dimension::FitContentFunction(length) => length.in_range(),
             _ => true,
         }
+    }
+}
+
+// What stands at a side.
+fn side_of<L>(rect: &Rect<L>, side: Side) -> &L
+    ensures { result.now ≡ side_of rect.now side }
+{
+    match side {
+        Side::Left => &rect.left,
+        Side::Right => &rect.right,
+        Side::Top => &rect.top,
+        Side::Bottom => &rect.bottom,
+    }
+}
+
+// The extent along an axis.
+fn extent_of<L>(size: &Size<L>, axis: AbsoluteAxis) -> &L
+    ensures { result.now ≡ extent axis size.now }
+{
+    match axis {
+        AbsoluteAxis::Horizontal => &size.width,
+        AbsoluteAxis::Vertical => &size.height,
     }
 }
 
@@ -97,65 +114,18 @@ impl InRange for Dimension {
 fn first_side_out_of_range<L: InRange>(rect: &Rect<L>) -> Option<Side>
     ensures { result ≡ first_failing (λ side. L.InRange.allowed (side_of rect.now side)) sides }
 {
-    if !rect.left.in_range() {
-        return Some(Side::Left);
-    }
-    if !rect.right.in_range() {
-        return Some(Side::Right);
-    }
-    if !rect.top.in_range() {
-        return Some(Side::Top);
-    }
-    if !rect.bottom.in_range() {
-        return Some(Side::Bottom);
-    }
-    None
+    [Side::Left, Side::Right, Side::Top, Side::Bottom]
+        .into_iter()
+        .find(|side| !side_of(rect, *side).in_range())
 }
 
 // The first of width and height that is out of range.
 fn first_extent_out_of_range<L: InRange>(size: &Size<L>) -> Option<AbsoluteAxis>
     ensures { result ≡ first_failing (λ axis. L.InRange.allowed (extent axis size.now)) axes }
 {
-    if !size.width.in_range() {
-        return Some(AbsoluteAxis::Horizontal);
-    }
-    if !size.height.in_range() {
-        return Some(AbsoluteAxis::Vertical);
-    }
-    None
-}
-
-fn first_by_groups(style: &Style) -> Option<StyleField>
-    ensures { result ≡ first_by_groups style.now }
-{
-    if !number::in_limits(style.scrollbar_width) {
-        return Some(StyleField::ScrollbarWidth);
-    }
-    if !aspect_ratio_in_range(style.aspect_ratio) {
-        return Some(StyleField::AspectRatio);
-    }
-    if let Some(side) = first_side_out_of_range(&style.inset) {
-        return Some(StyleField::Inset(side));
-    }
-    if let Some(side) = first_side_out_of_range(&style.padding) {
-        return Some(StyleField::Padding(side));
-    }
-    if let Some(side) = first_side_out_of_range(&style.border) {
-        return Some(StyleField::Border(side));
-    }
-    if let Some(axis) = first_extent_out_of_range(&style.size) {
-        return Some(StyleField::Size(axis));
-    }
-    if let Some(axis) = first_extent_out_of_range(&style.min_size) {
-        return Some(StyleField::MinSize(axis));
-    }
-    if let Some(axis) = first_extent_out_of_range(&style.max_size) {
-        return Some(StyleField::MaxSize(axis));
-    }
-    if let Some(side) = first_side_out_of_range(&style.margin) {
-        return Some(StyleField::Margin(side));
-    }
-    None
+    [AbsoluteAxis::Horizontal, AbsoluteAxis::Vertical]
+        .into_iter()
+        .find(|axis| !extent_of(size, *axis).in_range())
 }
 
 // The first value of the style, in the order in which placing an item reads them, whose number is out of range.
@@ -163,5 +133,19 @@ pub fn first_out_of_range(style: &Style) -> Option<StyleField>
     ensures value { result ≡ first_out_of_range style.now }
     ensures law { NamesFirst style.now result }
 {
-    first_by_groups(style)
+    let scrollbar_width = (!number::in_limits(style.scrollbar_width)).then_some(
+        StyleField::ScrollbarWidth,
+    );
+    let aspect_ratio = (!aspect_ratio_in_range(style.aspect_ratio)).then_some(
+        StyleField::AspectRatio,
+    );
+    scrollbar_width
+        .or(aspect_ratio)
+        .or_else(|| first_side_out_of_range(&style.inset).map(StyleField::Inset))
+        .or_else(|| first_side_out_of_range(&style.padding).map(StyleField::Padding))
+        .or_else(|| first_side_out_of_range(&style.border).map(StyleField::Border))
+        .or_else(|| first_extent_out_of_range(&style.size).map(StyleField::Size))
+        .or_else(|| first_extent_out_of_range(&style.min_size).map(StyleField::MinSize))
+        .or_else(|| first_extent_out_of_range(&style.max_size).map(StyleField::MaxSize))
+        .or_else(|| first_side_out_of_range(&style.margin).map(StyleField::Margin))
 }

@@ -4,6 +4,18 @@ use crate::length::{Dimension, LengthPercentage, LengthPercentageAuto};
 use crate::modes::{BoxSizing, Contain, Overflow, Position};
 use geometry::{Point, Rect, Size};
 
+const NO_EDGES: Rect<LengthPercentage> = Rect {
+    left: LengthPercentage::Px(0.0),
+    right: LengthPercentage::Px(0.0),
+    top: LengthPercentage::Px(0.0),
+    bottom: LengthPercentage::Px(0.0),
+};
+
+const AUTO_SIZE: Size<Dimension> = Size {
+    width: Dimension::Auto,
+    height: Dimension::Auto,
+};
+
 #[derive(Clone, Copy)]
 pub struct Style {
     pub overflow: Point<Overflow>,
@@ -48,36 +60,17 @@ impl Style {
             top: LengthPercentageAuto::Auto,
             bottom: LengthPercentageAuto::Auto,
         },
-        padding: Rect {
-            left: LengthPercentage::Px(0.0),
-            right: LengthPercentage::Px(0.0),
-            top: LengthPercentage::Px(0.0),
-            bottom: LengthPercentage::Px(0.0),
-        },
-        border: Rect {
-            left: LengthPercentage::Px(0.0),
-            right: LengthPercentage::Px(0.0),
-            top: LengthPercentage::Px(0.0),
-            bottom: LengthPercentage::Px(0.0),
-        },
+        padding: NO_EDGES,
+        border: NO_EDGES,
         box_sizing: BoxSizing::BorderBox,
-        size: Size {
-            width: Dimension::Auto,
-            height: Dimension::Auto,
-        },
-        min_size: Size {
-            width: Dimension::Auto,
-            height: Dimension::Auto,
-        },
-        max_size: Size {
-            width: Dimension::Auto,
-            height: Dimension::Auto,
-        },
+        size: AUTO_SIZE,
+        min_size: AUTO_SIZE,
+        max_size: AUTO_SIZE,
         margin: Rect {
-            left: LengthPercentageAuto::Px(0.0),
-            right: LengthPercentageAuto::Px(0.0),
-            top: LengthPercentageAuto::Px(0.0),
-            bottom: LengthPercentageAuto::Px(0.0),
+            left: LengthPercentageAuto::Length(LengthPercentage::Px(0.0)),
+            right: LengthPercentageAuto::Length(LengthPercentage::Px(0.0)),
+            top: LengthPercentageAuto::Length(LengthPercentage::Px(0.0)),
+            bottom: LengthPercentageAuto::Length(LengthPercentage::Px(0.0)),
         },
     };
 }

@@ -13,7 +13,7 @@ use Rattle.number.specs.Sizes.{Within, Bounded, Each}
 use Rattle.number.proofs.Grows.{add_grows}
 use Rattle.number.proofs.Limits.{limits_bounded}
 use Rattle.number.proofs.Sizes.{wider, add_within, sub_within, total_all}
-use Rattle.style.specs.declared.alignment.AlignContent.{AlignContent}
+use Rattle.style.specs.Alignment.{AlignContent}
 use Rattle.tracks.specs.Distribution as Distribution
 use Rattle.tracks.specs.Distribution.{used_alignment}
 use Rattle.tracks.specs.Tracks.{plus, live, live_count, base_sizes, used_size_of, free_space_of, track_alignment, begins, begin, onward, walked, start_place, starts_odd, start_walk, in_order, aligned}

@@ -2,7 +2,7 @@
 use Rattle.std.proofs.Common.{◌≡◌, ◌≤◌, Bool, true, false, List, map, reverse, length, sym, refl, ap, ◌∙◌, subst, arith}
 use lib.Ieee.{Float}
 use Rattle.std.proofs.lemmas.List.{reverse-reverse}
-use Rattle.style.specs.declared.alignment.AlignContent.{AlignContent}
+use Rattle.style.specs.Alignment.{AlignContent}
 use Rattle.tracks.specs.Tracks.{live_count, free_space_of, track_alignment, start_walk, in_order, walked, aligned}
 use Rattle.tracks.specs.Aligned.{Chain, Aligned, mark_and_size}
 use Rattle.tracks.specs.declared.grid_track.GridTrack.{GridTrack}

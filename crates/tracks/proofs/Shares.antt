@@ -12,7 +12,7 @@ use Rattle.number.proofs.Order.{cond_both}
 use Rattle.number.proofs.Signs.{div_sign, most_zero}
 use Rattle.number.proofs.Sizes.{div_within, share_within, most_within, zero_within}
 use Rattle.style.specs.Alignment.{reversed}
-use Rattle.style.specs.declared.alignment.AlignContent.{AlignContent}
+use Rattle.style.specs.Alignment.{AlignContent}
 use Rattle.style.specs.declared.alignment.AlignmentSafety.{AlignmentSafety}
 use Rattle.style.specs.declared.alignment.AlignContentKeyword.{AlignContentKeyword}
 use Rattle.style.specs.declared.alignment.AlignContentKeyword.TheVariants.{Normal, Start, End, FlexStart, FlexEnd, Center, Stretch, SpaceBetween, SpaceEvenly, SpaceAround}

@@ -1,7 +1,7 @@
 -- What it is for tracks to be aligned, track by track in the order of the walk, with no word on how offsets are found.
 use Rattle.std.specs.Prelude.{◌≡◌, ℕ, zero, suc, ◌<◌, Bool, false, not, ◌||◌, T, List, [], ◌∷◌, map, length, get_or, take, slice_index_or, Float}
 use Rattle.std.specs.Float.Ieee.{le}
-use Rattle.style.specs.declared.alignment.AlignContent.{AlignContent}
+use Rattle.style.specs.Alignment.{AlignContent}
 use Rattle.tracks.specs.Distribution as Distribution
 use Rattle.tracks.specs.Tracks.{plus, live, begins, track_alignment, start_place, starts_odd, in_order}
 use Rattle.tracks.specs.declared.grid_track.GridTrack.{GridTrack}

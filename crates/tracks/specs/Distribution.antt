@@ -6,7 +6,7 @@ use Rattle.style.specs.Alignment.{safe}
 use Rattle.style.specs.declared.alignment.AlignContentKeyword.{AlignContentKeyword}
 use Rattle.style.specs.declared.alignment.AlignContentKeyword.TheVariants.{Normal, Start, End, FlexStart, FlexEnd, Center, Stretch, SpaceBetween, SpaceEvenly, SpaceAround}
 use Rattle.style.specs.declared.alignment.AlignmentSafety.TheVariants.{Safe}
-use Rattle.style.specs.declared.alignment.AlignContent.{AlignContent}
+use Rattle.style.specs.Alignment.{AlignContent}
 
 abbrev pub zero : Float
 zero = from_bits binary32 0

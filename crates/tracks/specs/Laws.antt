@@ -3,7 +3,7 @@ use Rattle.std.specs.Prelude.{◌≡◌, ◌≤◌, Bool, T, List, map, length, 
 use Rattle.geometry.specs.declared.Line.{Line}
 use Rattle.number.specs.Limits.{in_limits}
 use Rattle.number.specs.Sizes.{Bounded, Each}
-use Rattle.style.specs.declared.alignment.AlignContent.{AlignContent}
+use Rattle.style.specs.Alignment.{AlignContent}
 use Rattle.tracks.specs.Tracks.{plus, base_sizes, starts_odd, in_order}
 use Rattle.tracks.specs.Aligned.{Aligned, Apart}
 use Rattle.tracks.specs.declared.grid_track.GridTrack.{GridTrack}

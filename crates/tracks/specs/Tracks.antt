@@ -4,7 +4,7 @@ use Rattle.std.specs.Float.{binary32}
 use Rattle.std.specs.Float.Ieee.{add, sub}
 use Rattle.number.specs.Sizes.{total}
 use Rattle.style.specs.Alignment.{reversed}
-use Rattle.style.specs.declared.alignment.AlignContent.{AlignContent}
+use Rattle.style.specs.Alignment.{AlignContent}
 use Rattle.style.specs.declared.alignment.AlignContentKeyword.{AlignContentKeyword}
 use Rattle.tracks.specs.Distribution.{used_alignment, first_share_of, gap}
 use Rattle.tracks.specs.declared.grid_track.GridTrack.{GridTrack}

@@ -2,7 +2,7 @@
 use Rattle.std.specs.Prelude.{ℕ, Bool, true, false, ◌&&◌, T, List, [], ◌∷◌, ℤ, pos, negsuc, Float}
 use Rattle.std.specs.Float.{binary32}
 use Rattle.std.specs.Float.Ieee.{eq, of_int}
-use Rattle.style.specs.declared.alignment.AlignContent.{AlignContent}
+use Rattle.style.specs.Alignment.{AlignContent}
 use Rattle.style.specs.declared.alignment.AlignContentKeyword.{AlignContentKeyword}
 use Rattle.style.specs.declared.alignment.AlignContentKeyword.TheVariants.{End, Center, Stretch, SpaceBetween, SpaceEvenly, SpaceAround}
 use Rattle.style.specs.declared.alignment.AlignmentSafety.TheVariants.{Default, Safe}

@@ -23,7 +23,7 @@ fn ends_are_in_range(rt: HostRuntime) {
     let mut style = Style::DEFAULT;
     style.aspect_ratio = Some(0.0009765625);
     style.padding.top = LengthPercentage::Px(1048576.0);
-    style.margin.left = LengthPercentageAuto::Percent(-1024.0);
+    style.margin.left = LengthPercentageAuto::Length(LengthPercentage::Percent(-1024.0));
     assert!(rt; first_out_of_range(&style).is_none());
 }
 
@@ -31,14 +31,14 @@ fn ends_are_in_range(rt: HostRuntime) {
 #[test]
 fn first_of_two(rt: HostRuntime) {
     let mut style = Style::DEFAULT;
-    style.margin.left = LengthPercentageAuto::Px(1048577.0);
+    style.margin.left = LengthPercentageAuto::Length(LengthPercentage::Px(1048577.0));
     assert!(rt;
         matches!(
             first_out_of_range(&style),
             Some(StyleField::Margin(Side::Left))
         )
     );
-    style.max_size.height = Dimension::FitContentPercent(1024.5);
+    style.max_size.height = Dimension::FitContentFunction(LengthPercentage::Percent(1024.5));
     assert!(rt;
         matches!(
             first_out_of_range(&style),
