@@ -15,20 +15,6 @@ pub struct AxisReport<'a> {
     pub tracks: &'a [GridTrack],
 }
 
-fn axis_name(axis: AbsoluteAxis) -> &'static str {
-    match axis {
-        AbsoluteAxis::Horizontal => "columns",
-        AbsoluteAxis::Vertical => "rows",
-    }
-}
-
-fn property_name(axis: AbsoluteAxis) -> &'static str {
-    match axis {
-        AbsoluteAxis::Horizontal => "justify-content",
-        AbsoluteAxis::Vertical => "align-content",
-    }
-}
-
 fn overflow_position(safety: AlignmentSafety) -> &'static str {
     match safety {
         AlignmentSafety::Default => "",
@@ -87,8 +73,10 @@ impl fmt::Display for ShareLines {
 
 impl<'a> fmt::Display for AxisReport<'a> {
     fn fmt<W: fmt::Write>(&self, f: &mut fmt::Formatter<W>) -> fmt::Result {
-        let name = axis_name(self.axis);
-        let property = property_name(self.axis);
+        let (name, property) = match self.axis {
+            AbsoluteAxis::Horizontal => ("columns", "justify-content"),
+            AbsoluteAxis::Vertical => ("rows", "align-content"),
+        };
         let content = self.alignment.content_size;
         let alignment = self.alignment.alignment;
         let used = alignment.used_size;

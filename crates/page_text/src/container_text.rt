@@ -60,13 +60,11 @@ fn read_track_alignment(value: &str) -> Option<AlignContent>
 {
     let mut words = value.split_whitespace();
     match (words.next()?, words.next(), words.next()) {
-        (keyword, None, _) => match AlignContentKeyword::named(keyword)? {
-            AlignContentKeyword::Normal => None,
-            keyword => Some(AlignContent {
-                keyword,
-                safety: AlignmentSafety::Default,
-            }),
-        },
+        (keyword, None, _) => Some(AlignContent {
+            keyword: AlignContentKeyword::named(keyword).filter(|keyword| *keyword
+                != AlignContentKeyword::Normal)?,
+            safety: AlignmentSafety::Default,
+        }),
         (safety, Some(keyword), None) => Some(AlignContent {
             safety: AlignmentSafety::named(safety)?,
             keyword: AlignContentKeyword::named(keyword).filter(|keyword| is_positional(*keyword))?,

@@ -6,7 +6,7 @@ use std::alloc::AllocFailed;
 use std::fmt;
 
 // What was expected.
-#[derive(Clone, Copy)]
+#[derive(Clone, Copy, Debug, PartialEq, Eq)]
 pub enum Expected {
     Utf8,
     Statement,
@@ -59,7 +59,7 @@ impl fmt::Display for Expected {
 }
 
 // One line of the description, counted from 1, and the words there that do not fit, if there are any.
-#[derive(Clone, Copy)]
+#[derive(Clone, Copy, Debug, PartialEq, Eq)]
 pub struct ReadError<'a> {
     pub line: usize,
     pub expected: Expected,
@@ -90,10 +90,19 @@ impl<'a> fmt::Display for ReadError<'a> {
 }
 
 // Why there is no page: it cannot be read, or there is no memory for it.
-#[derive(Clone, Copy)]
+#[derive(Clone, Copy, Debug, PartialEq, Eq)]
 pub enum ReadFault<'a> {
     Unreadable(ReadError<'a>),
     OutOfMemory,
+}
+
+impl<'a> fmt::Display for ReadFault<'a> {
+    fn fmt<W: fmt::Write>(&self, f: &mut fmt::Formatter<W>) -> fmt::Result {
+        match self {
+            ReadFault::Unreadable(error) => write!(f, "{error}"),
+            ReadFault::OutOfMemory => f.write_str("no memory for the page"),
+        }
+    }
 }
 
 impl<'a> From<ReadError<'a>> for ReadFault<'a> {

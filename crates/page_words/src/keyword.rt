@@ -13,7 +13,7 @@ pub trait Keyword: Sized {
 }
 
 // A property of the container.
-#[derive(Clone, Copy)]
+#[derive(Clone, Copy, Debug, PartialEq, Eq)]
 pub enum Property {
     Width,
     Height,

@@ -3,7 +3,6 @@
 
 ghost use Rattle.std.specs.Prelude.{◌≤◌, length};
 
-use page_text::read_error::ReadFault;
 use page_text::reader::read_page;
 use std::io;
 use std::io::Read;
@@ -12,14 +11,13 @@ use std::io::Read;
 fn case_len(input: &[u8]) -> usize
     ensures { result ≤ length input.now }
 {
-    let mut begins_line = true;
-    for i in 0..input.len() {
-        if begins_line && input[i] == b'~' && input.get(i + 1) == Some(&b'\n') {
-            return i;
-        }
-        begins_line = input[i] == b'\n';
+    if input.starts_with(b"~\n") {
+        return 0;
     }
-    input.len()
+    input
+        .windows(3)
+        .position(|bytes| matches!(bytes, b"\n~\n"))
+        .map_or(input.len(), |end| end + 1)
 }
 
 fn say_page(rt: &HostRuntime, text: &[u8]) -> io::Result<()> {
@@ -29,22 +27,16 @@ fn say_page(rt: &HostRuntime, text: &[u8]) -> io::Result<()> {
             let rows = page.rows.len();
             println!(rt; "page of {columns} columns and {rows} rows")
         }
-        Err(ReadFault::Unreadable(error)) => println!(rt; "{error}"),
-        Err(ReadFault::OutOfMemory) => println!(rt; "no memory for the page"),
+        Err(fault) => println!(rt; "{fault}"),
     }
 }
 
 fn say_pages(rt: &HostRuntime, input: &[u8]) -> io::Result<()> {
-    let mut from = 0;
-    while from < input.len() {
-        let rest = &input[from..];
-        let len = case_len(rest);
-        say_page(rt, &rest[0..len])?;
-        from = if rest.len() - len > 2 {
-            from + len + 2
-        } else {
-            input.len()
-        };
+    let mut rest = input;
+    while !rest.is_empty() {
+        let (page, end) = rest.split_at(case_len(rest));
+        say_page(rt, page)?;
+        rest = end.get(2..).unwrap_or(&[]);
     }
     Ok(())
 }

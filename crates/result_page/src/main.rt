@@ -4,32 +4,23 @@
 use geometry::AbsoluteAxis;
 use page_report::axis_report::AxisReport;
 use page_text::axis_alignment::align_axis;
-use page_text::page_description::PageDescription;
-use page_text::read_error::ReadFault;
+use page_text::page_description::ContainerDescription;
 use page_text::reader::read_page;
 use std::io;
 use std::io::Read;
+use tracks::grid_track::GridTrack;
 
-fn print_axes(rt: &HostRuntime, page: PageDescription) -> io::Result<()> {
-    let PageDescription {
-        container,
-        mut columns,
-        mut rows,
-    } = page;
-    let axis = AbsoluteAxis::Horizontal;
-    let alignment = align_axis(&container, axis, &mut columns);
+fn print_axis(
+    rt: &HostRuntime,
+    container: &ContainerDescription,
+    axis: AbsoluteAxis,
+    tracks: &mut [GridTrack],
+) -> io::Result<()> {
+    let alignment = align_axis(container, axis, tracks);
     let report = AxisReport {
         axis,
         alignment,
-        tracks: &columns,
-    };
-    print!(rt; "{report}")?;
-    let axis = AbsoluteAxis::Vertical;
-    let alignment = align_axis(&container, axis, &mut rows);
-    let report = AxisReport {
-        axis,
-        alignment,
-        tracks: &rows,
+        tracks,
     };
     print!(rt; "{report}")
 }
@@ -38,8 +29,15 @@ fn main(rt: HostRuntime) -> io::Result<()> {
     let mut input = Vec::new(rt.alloc());
     rt.stdin().read_to_end(&mut input)?;
     match read_page(rt.alloc(), &input) {
-        Ok(page) => print_axes(&rt, page),
-        Err(ReadFault::Unreadable(error)) => println!(rt; "{error}"),
-        Err(ReadFault::OutOfMemory) => println!(rt; "no memory for the page"),
+        Ok(mut page) => {
+            print_axis(
+                &rt,
+                &page.container,
+                AbsoluteAxis::Horizontal,
+                &mut page.columns,
+            )?;
+            print_axis(&rt, &page.container, AbsoluteAxis::Vertical, &mut page.rows)
+        }
+        Err(fault) => println!(rt; "{fault}"),
     }
 }
