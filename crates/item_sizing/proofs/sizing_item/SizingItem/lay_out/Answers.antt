@@ -7,4 +7,4 @@ pub returns-clause-finds : goal.returns-clause-finds
 returns-clause-finds g c = record { reply = search rules; asked = record { order = search rules; same = search rules; counts = search (rules, raise_raise) } }
 
 pub returns-clause-law : goal.returns-clause-law
-returns-clause-law g c = sized (g.H.LayoutPartialTree.meaning c.args.host.now).means c.args.self c.lay_out_with.result (search rules)
+returns-clause-law g c = sized (g.H.LayoutPartialTree.meaning c.args.host.now).means c.args.self _ (search rules)
