@@ -15,22 +15,12 @@ pub struct AxisReport<'a> {
     pub tracks: &'a [GridTrack],
 }
 
+// By hand: `Display` cannot be written here for a type of another crate.
 fn overflow_position(safety: AlignmentSafety) -> &'static str {
     match safety {
         AlignmentSafety::Default => "",
         AlignmentSafety::Safe => "safe ",
         AlignmentSafety::Unsafe => "unsafe ",
-    }
-}
-
-// What a track is: even indices are gutters.
-fn kind(index: usize, track: &GridTrack) -> &'static str {
-    if track.is_collapsed {
-        "collapsed"
-    } else if index % 2 == 0 {
-        "gutter"
-    } else {
-        "track"
     }
 }
 
@@ -41,13 +31,26 @@ struct TrackLine {
     track: GridTrack,
 }
 
+impl TrackLine {
+    // What a track is: even indices are gutters.
+    fn kind(self) -> &'static str {
+        if self.track.is_collapsed {
+            "collapsed"
+        } else if self.index % 2 == 0 {
+            "gutter"
+        } else {
+            "track"
+        }
+    }
+}
+
 impl fmt::Display for TrackLine {
     fn fmt<W: fmt::Write>(&self, f: &mut fmt::Formatter<W>) -> fmt::Result {
         let index = self.index;
         let offset = self.track.offset;
         let size = self.track.base_size;
         let end = offset + size;
-        let kind = kind(index, &self.track);
+        let kind = self.kind();
         writeln!(f, "  {index:>5} {offset:>12} {size:>12} {end:>12}  {kind}")
     }
 }

@@ -31,8 +31,7 @@ pub(crate) struct ContainerText {
 
 // The size that a word is, or the side that it would equal where there is none.
 fn read_side(word: Option<&str>, other: f32) -> Option<f32>
-    requires { SizeInRange other }
-    ensures { IfSome result SizeInRange }
+    ensures { SizeInRange other → IfSome result SizeInRange }
 {
     word.map_or(Some(other), read_size)
 }
@@ -60,15 +59,18 @@ fn read_track_alignment(value: &str) -> Option<AlignContent>
 {
     let mut words = value.split_whitespace();
     match (words.next()?, words.next(), words.next()) {
-        (keyword, None, _) => Some(AlignContent {
-            keyword: AlignContentKeyword::named(keyword).filter(|keyword| *keyword
-                != AlignContentKeyword::Normal)?,
-            safety: AlignmentSafety::Default,
-        }),
-        (safety, Some(keyword), None) => Some(AlignContent {
-            safety: AlignmentSafety::named(safety)?,
-            keyword: AlignContentKeyword::named(keyword).filter(|keyword| is_positional(*keyword))?,
-        }),
+        (word, None, _) => AlignContentKeyword::named(word)
+            .filter(|keyword| *keyword != AlignContentKeyword::Normal)
+            .map(|keyword| AlignContent {
+                keyword,
+                safety: AlignmentSafety::Default,
+            }),
+        (position, Some(word), None) => {
+            let safety = AlignmentSafety::named(position)?;
+            AlignContentKeyword::named(word)
+                .filter(|keyword| is_positional(*keyword))
+                .map(|keyword| AlignContent { keyword, safety })
+        }
         (_, Some(_), Some(_)) => None,
     }
 }

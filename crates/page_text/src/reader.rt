@@ -1,5 +1,5 @@
 // Reads a page description, line by line: `container`, `columns` and `rows`, with `#` before a comment.
-ghost use Rattle.std.specs.Prelude.{◌≤◌, length, MatchResult};
+ghost use Rattle.std.specs.Prelude.{◌≤◌, MatchResult};
 ghost use Rattle.page_text.specs.Pages.{PageInRange, AtSomeLine};
 
 use crate::draft::Draft;
@@ -10,11 +10,11 @@ use std::alloc::Global;
 
 // The line, counted from 1, in which a byte stands.
 fn line_of(input: &[u8], at: usize) -> usize
-    requires { at ≤ length input.now }
     ensures { 1 ≤ result }
 {
-    input[..at]
+    input
         .iter()
+        .take(at)
         .filter(|byte| **byte == b'\n')
         .count()
         .saturating_add(1)

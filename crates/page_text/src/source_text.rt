@@ -58,11 +58,9 @@ impl<'a> SourceText<'a> {
             .text
             .split_once(':')
             .ok_or(self.refusal(Expected::Declaration))?;
-        container.declare(property.trim(), value.trim()).map_err(|expected| ReadError::new(
-            self.line,
-            expected,
-            Some(self.text),
-        ))
+        let taken = container.declare(property.trim(), value.trim());
+        // Not `self.refusal(expected)`: of a closure that calls it no caller learns the line.
+        taken.map_err(|expected| ReadError::new(self.line, expected, Some(self.text)))
     }
 
     // Takes the declarations that stand here.

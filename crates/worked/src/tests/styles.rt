@@ -13,7 +13,7 @@ fn self_start_is_the_end_of_the_line(rt: HostRuntime) {
         safety: AlignmentSafety::Safe,
     };
     let used = own.resolve_self_relative(Direction::Rtl, Direction::Ltr, true);
-    assert!(rt; matches!(used.keyword, AlignItemsKeyword::End));
+    assert_eq!(rt; used.keyword, AlignItemsKeyword::End);
     assert!(rt; used.is_safe());
 }
 
