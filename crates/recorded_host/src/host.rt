@@ -50,7 +50,7 @@ impl RecordedHost {
         }
     }
 
-    // By hand for each kind of record: a trait over the kinds would have to name each kind's table just so.
+    // One for each kind of record: a trait over the kinds would hold the same five bodies, each with its own table, and one more to call them.
     pub fn add_node(&mut self, node: NodeRecord) -> Result<(), AllocFailed<NodeRecord>>
         ensures { Added result node self.old (with_node self.old node) self.new }
     {

@@ -39,7 +39,7 @@ impl Keyed<Question> for MeasurementRecord {
     }
 }
 
-// The answer to a layout.
+// The answer to a layout. No generic struct with the one above: each names its answer, as a size or as an output.
 #[derive(Clone, Copy)]
 pub struct LayoutRecord {
     pub question: Question,
