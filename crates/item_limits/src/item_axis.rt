@@ -91,7 +91,7 @@ impl ItemAxis {
         } else {
             self.margin
         };
-        ends.start.is_some() && ends.end.is_some()
+        ends.both_set()
     }
 
     // What a side of automatic size is to be.
