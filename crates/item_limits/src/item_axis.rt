@@ -59,6 +59,7 @@ pub enum SideSizing {
 
 impl ItemAxis {
     // The area less the margins and, out of flow, the insets: the border box that fills it.
+    #[tactic(auto, using(crate::proofs::ItemAxes::not_negative))]
     pub fn stretch_fit_size(self) -> f32
         ensures size { result ≡ stretch_fit_size self }
         ensures law { T (le zero result) }

@@ -8,6 +8,7 @@ use style::alignment::{AlignItems, Direction};
 
 // The item's own alignment, else the container's; `self-start` and `self-end` by the direction of the item. The inline axis is the horizontal one.
 // Plain arguments: a struct would be made for this call alone.
+#[tactic(auto, using(crate::proofs::SelfAlignment::container_relative))]
 pub fn self_alignment(
     own: Option<AlignItems>,
     container: AlignItems,

@@ -114,6 +114,7 @@ impl ItemBox {
 }
 
 // The rectangle that an item adds to its container's scrollable overflow area, from the container's scroll origin.
+#[tactic(auto, using(crate::proofs::Reached::contributes))]
 pub fn compute_scrollable_overflow_contribution(item: ItemBox, container: ContainerBox) -> Rect<f32>
     ensures value { result ≡ area.scrollable_overflow_contribution container item }
     ensures law { Contributes container item result }
