@@ -37,7 +37,7 @@ pub fn box_sizing_adjustment(box_sizing: BoxSizing, padding_border: f32) -> f32
 }
 
 impl SideLength {
-    // A length of the box that `box-sizing` names.
+    // A length of the box that `box-sizing` names. `of_border` is a function of its own: the two share no more than the struct.
     pub fn of_named(length: f32, adjustment: f32) -> SideLength
         ensures { result ≡ named_length adjustment length }
     {

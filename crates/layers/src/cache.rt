@@ -12,7 +12,7 @@ use tree::layout::{Layout, LayoutOutput, OofCandidate};
 use tree::question::Question;
 use tree::traits::{LayoutGridContainer, LayoutPartialTree};
 
-// In order when the host below is, and each remembered answer is the one below.
+// In order when the host below is, and each remembered answer is the one below. That is no invariant of the type, as no host's order is.
 #[derive(Drop)]
 pub struct Cache<H> {
     below: H,

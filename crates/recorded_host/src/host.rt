@@ -17,6 +17,7 @@ use tree::layout::{Layout, LayoutOutput, OofCandidate};
 use tree::question::Question;
 use tree::traits::{LayoutGridContainer, LayoutPartialTree};
 
+// Lists: a table keeps its records in the order in which they were added, and the first for a question counts.
 #[derive(Drop)]
 pub struct RecordedHost {
     nodes: NodeTable<NodeRecord>,
