@@ -73,8 +73,12 @@ impl<T: Add> Add for Rect<T> {
     }
 }
 
-// What the operators give of numbers: each side rounded by itself.
+// Of numbers there is always a sum, each side rounded by itself.
 pub fn sums_hold()
+    ensures can_add_sizes { (self rhs : Size Float) → ⟦<Size<f32> as Add>⟧.can_add self rhs }
+    ensures can_sub_sizes { (self rhs : Size Float) → ⟦<Size<f32> as Sub>⟧.can_sub self rhs }
+    ensures can_add_points { (self offset : Point Float) → ⟦<Point<f32> as Add>⟧.can_add self offset }
+    ensures can_add_rects { (self rhs : Rect Float) → ⟦<Rect<f32> as Add>⟧.can_add self rhs }
     ensures sizes { (self rhs result : Size Float) → ⟦<Size<f32> as Add>⟧.add_gives self rhs result → result ≡ zip_size (Ieee.add binary32) self rhs }
     ensures rests { (self rhs result : Size Float) → ⟦<Size<f32> as Sub>⟧.sub_gives self rhs result → result ≡ zip_size (Ieee.sub binary32) self rhs }
     ensures points { (self offset result : Point Float) → ⟦<Point<f32> as Add>⟧.add_gives self offset result → result ≡ record { x = Ieee.add binary32 self.x offset.x; y = Ieee.add binary32 self.y offset.y } }
