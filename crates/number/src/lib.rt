@@ -32,7 +32,7 @@ pub fn without_zero_sign(x: f32) -> f32
     if x == 0.0 { 0.0 } else { x }
 }
 
-// The larger of two; where one is a NaN, the other. Written beside `f32_min`, as std's `max` and `min` are: a flag for the two would be no plainer.
+// The larger of two; where one is a NaN, the other. By hand, as the smaller: std's `max` and `min` leave open which of 0 and -0 comes out.
 pub fn f32_max(a: f32, b: f32) -> f32
     ensures { result ≡ float_max a b }
 {

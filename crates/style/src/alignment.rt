@@ -84,7 +84,7 @@ impl<K: Drop> Alignment<K> {
     }
 }
 
-// Each constant is spelled out for both properties: a constant's value may call no function, not even a `const fn`.
+// Each constant is spelled out for both properties: a trait of keywords, by which `Alignment<K>` could have them once, would spell the five twice again.
 impl AlignItems {
     pub const NORMAL: AlignItems = AlignItems {
         keyword: AlignItemsKeyword::Normal,
@@ -111,7 +111,7 @@ impl AlignItems {
         safety: AlignmentSafety::Default,
     };
 
-    // The same keyword, with the same overflow position.
+    // The same keyword, with the same overflow position. It is `==`, and says that `==` is identity.
     pub fn is_same(self, other: AlignItems) -> bool
         ensures { (T result → self ≡ other) × (self ≡ other → T result) }
     {

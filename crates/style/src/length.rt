@@ -11,6 +11,7 @@ pub enum LengthPercentage {
 }
 
 // A margin or an inset.
+// No `Option`: `auto` is a value of its own, which becomes an absent number only where a length is resolved.
 #[derive(Clone, Copy, Debug, PartialEq)]
 pub enum LengthPercentageAuto {
     Auto,

@@ -19,7 +19,7 @@ pub enum Side {
 }
 
 // A value of a style that holds a number.
-#[derive(Clone, Copy)]
+#[derive(Clone, Copy, Debug, PartialEq, Eq)]
 pub enum StyleField {
     ScrollbarWidth,
     AspectRatio,
@@ -100,16 +100,6 @@ fn side_of<L>(rect: &Rect<L>, side: Side) -> &L
     }
 }
 
-// The extent along an axis.
-fn extent_of<L>(size: &Size<L>, axis: AbsoluteAxis) -> &L
-    ensures { result.now ≡ extent axis size.now }
-{
-    match axis {
-        AbsoluteAxis::Horizontal => &size.width,
-        AbsoluteAxis::Vertical => &size.height,
-    }
-}
-
 // The first of left, right, top and bottom that is out of range.
 fn first_side_out_of_range<L: InRange>(rect: &Rect<L>) -> Option<Side>
     ensures { result ≡ first_failing (λ side. L.InRange.allowed (side_of rect.now side)) sides }
@@ -120,12 +110,12 @@ fn first_side_out_of_range<L: InRange>(rect: &Rect<L>) -> Option<Side>
 }
 
 // The first of width and height that is out of range.
-fn first_extent_out_of_range<L: InRange>(size: &Size<L>) -> Option<AbsoluteAxis>
+fn first_extent_out_of_range<L: InRange + Copy>(size: &Size<L>) -> Option<AbsoluteAxis>
     ensures { result ≡ first_failing (λ axis. L.InRange.allowed (extent axis size.now)) axes }
 {
     [AbsoluteAxis::Horizontal, AbsoluteAxis::Vertical]
         .into_iter()
-        .find(|axis| !extent_of(size, *axis).in_range())
+        .find(|axis| !size.get_abs(*axis).in_range())
 }
 
 // The first value of the style, in the order in which placing an item reads them, whose number is out of range.

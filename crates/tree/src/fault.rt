@@ -8,9 +8,9 @@ use std::fmt;
 #[derive(Clone, Copy, Debug, PartialEq, Eq)]
 pub enum HostReason {
     // The node is none of the host's, or has no style where its style is wanted.
-    UnknownNode,
+    UnknownNode = 1,
     // There is no answer, no such candidate, or no layout stored.
-    NoAnswer,
+    NoAnswer = 2,
 }
 
 // A fault has the question whole: none for a style, a store or a read, the layout's for a candidate.
@@ -22,7 +22,7 @@ pub struct HostFault {
 }
 
 impl HostReason {
-    // The fault of this reason.
+    // The fault of this reason. The question is apart from the node, since what is asked of a style or a stored layout is no question.
     pub fn about(self, node: u64, question: Option<Question>) -> HostFault
         ensures { result ≡ record { reason = self; node = node; question = question } }
     {
@@ -38,10 +38,7 @@ impl From<HostReason> for u32 {
     ghost from_gives = { λ reason number. number ≡ reason_number reason };
 
     fn from(reason: HostReason) -> u32 {
-        match reason {
-            HostReason::UnknownNode => 1,
-            HostReason::NoAnswer => 2,
-        }
+        reason as u32
     }
 }
 

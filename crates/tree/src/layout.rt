@@ -32,7 +32,7 @@ pub struct OofCandidate {
     pub static_position: Point<AxisStaticPosition>,
 }
 
-// The answer to a layout. Its candidates are fetched one by one, by index.
+// The answer to a layout. Its candidates are fetched one by one, by index, so that an answer holds no memory of its own.
 #[derive(Clone, Copy)]
 pub struct LayoutOutput {
     pub size: Size<f32>,

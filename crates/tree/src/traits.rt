@@ -13,7 +13,8 @@ pub trait LayoutPartialTree {
     // What the host means.
     ghost meaning: { Self → Meaning };
 
-    // The host's own condition, under which it answers by its meaning. Each method asks for it, since it is no invariant of the type: each host says what it is.
+    // The host's own condition, under which it answers by its meaning. Each method asks for it: by the rule a host says itself when it is in order, and a trait
+    // holds no invariant of the types that implement it.
     ghost ordered: { Self → Type 0 };
 
     // What a tally on top has counted; nothing where there is none.
