@@ -1,5 +1,5 @@
 // Resolving one length, the four of a Rect and the two of a Size.
-ghost use Rattle.std.specs.Prelude.{◌≡◌, ℕ, Result as Answer, Float};
+ghost use Rattle.std.specs.Prelude.{◌≡◌, Result as Answer, Float};
 ghost use Rattle.item_lengths.specs.declared.CalcOutOfLimits.{CalcOutOfLimits as OutOfLimits};
 ghost use Rattle.item_lengths.specs.Resolved.{Calculation, calculated, length_percentage, length_percentage_auto, dimension, fit_content_argument, resolved_rect, resolved_size};
 
@@ -19,9 +19,11 @@ fn calculate<H: LayoutPartialTree>(
     ensures { result ≡ calculated (H.meaning host.now).means.calculates handle basis }
 {
     let number = host.calc(handle, without_zero_sign(basis));
-    in_limits(number)
-        .then_some(number)
-        .ok_or(CalcOutOfLimits { handle })
+    if in_limits(number) {
+        Ok(number)
+    } else {
+        Err(CalcOutOfLimits { handle })
+    }
 }
 
 // A length that a basis turns into a number, or into a number that may be absent. The basis stands beside the host, and not in

@@ -25,6 +25,7 @@ pub fn self_alignment(
 }
 
 // Where `normal` behaves as `stretch`, per CSS Grid 1, section 6.2; elsewhere it behaves as `start`. In flow a box with a ratio takes its height from its width.
+// Plain arguments: a method of an `ItemAxis` would ask for eleven parts where four count.
 pub fn normal_fills(
     axis: AbsoluteAxis,
     is_out_of_flow: bool,

@@ -6,7 +6,7 @@ use crate::area_item::AreaItem;
 use geometry::{AbsoluteAxis, Line};
 use style::alignment::Direction;
 
-// Left and right as start and end of a line that runs so; as well start and end as left and right.
+// Left and right as the start and the end of a line that runs in this direction. The same exchange leads back.
 pub(crate) fn flow_relative<T>(sides: Line<T>, direction: Direction) -> Line<T>
     ensures { result ≡ flow_relative direction sides }
 {

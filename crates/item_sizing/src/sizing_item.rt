@@ -1,7 +1,7 @@
 // What is known of an item before its sizes are, and the questions that its sizes take.
 ghost use Rattle.std.specs.Prelude.{◌≡◌};
 ghost use Rattle.std.specs.Option.{option_map};
-ghost use Rattle.item_sizing.specs.UsedSizes.{ratio_of, question as question_of, content_space, height_along_of, width_question, height_question};
+ghost use Rattle.item_sizing.specs.UsedSizes.{ratio_of, question as question_of, height_along_of, width_question, height_question};
 
 use geometry::Size;
 use item_limits::item_axis::SideSizing;
@@ -64,9 +64,13 @@ impl SizingItem {
     pub(crate) fn width_question(self, space: AvailableSpace) -> Question
         ensures { result ≡ width_question self space }
     {
-        let along = self.height_along();
-        let axis = along.map_or(RequestedAxis::Horizontal, |_| RequestedAxis::Both);
-        let height = along.unwrap_or(AvailableSpace::Definite(self.space.height));
+        let (height, axis) = match self.height_along() {
+            Some(height) => (height, RequestedAxis::Both),
+            None => (
+                AvailableSpace::Definite(self.space.height),
+                RequestedAxis::Horizontal,
+            ),
+        };
         self.question(
             Size::NONE,
             Size {

@@ -74,7 +74,7 @@ impl SizingItem {
                 Ok(Some(used_length(limits, h)))
             }
             SideSizing::Content(space) => {
-                // A `match`, since the `?` is this function's.
+                // A `match`, since the `?` returns from this function.
                 let height = match width.height_along {
                     Some(height) => height,
                     None => measure(host, self.height_question(width.width, space))?.height,

@@ -12,7 +12,7 @@ use tree::layout::{Layout, LayoutOutput, OofCandidate};
 use tree::question::Question;
 use tree::traits::{LayoutGridContainer, LayoutPartialTree};
 
-// In order when the host below is, and each remembered answer is the one below. That is no invariant of the type, as no host's order is.
+// In order when the host below is, and each remembered answer is the one below: by the rule a condition of the host, which its calls ask for, and not of the type.
 #[derive(Drop)]
 pub struct Cache<H> {
     below: H,
@@ -45,6 +45,7 @@ impl<H: LayoutPartialTree> Cache<H> {
     }
 }
 
+// A method that has clauses of its own says those of the trait again, since its own stand in their place.
 impl<H: LayoutPartialTree> LayoutPartialTree for Cache<H> {
     ghost meaning = { λ s. H.meaning s.below };
 

@@ -11,7 +11,7 @@ use std::alloc::{AllocError, Global};
 use std::marker::Model;
 use tree::question::{Question, answers_for};
 
-// A measurement, and its answer.
+// A measurement, and its answer. A recorded host has such a record of its own, since the layers stand on no host.
 #[derive(Clone, Copy)]
 pub struct Remembered {
     pub question: Question,

@@ -56,6 +56,7 @@ impl<H> Tally<H> {
     }
 }
 
+// A method that has clauses of its own says those of the trait again, since its own stand in their place.
 impl<H: LayoutPartialTree> LayoutPartialTree for Tally<H> {
     ghost meaning = { λ s. H.meaning s.below };
 

@@ -1,3 +1,4 @@
+// What a memory keeps, and which questions it takes for one.
 use crate::memory::Memory;
 use geometry::Size;
 use std::test::Fail;

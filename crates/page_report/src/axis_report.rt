@@ -15,7 +15,7 @@ pub struct AxisReport<'a> {
     pub tracks: &'a [GridTrack],
 }
 
-// By hand: `Display` cannot be written here for a type of another crate.
+// A function and no `Display`: the type is of `style`, which knows nothing of a report, and `Default` has no word.
 fn overflow_position(safety: AlignmentSafety) -> &'static str {
     match safety {
         AlignmentSafety::Default => "",

@@ -4,7 +4,7 @@ ghost use Rattle.page_words.specs.Keywords.{meaning_of, content_keywords};
 
 use style::alignment::AlignContentKeyword;
 
-// The name that reads back as the keyword. By hand: `Display` cannot be written here for a type of another crate.
+// The name that reads back as the keyword. A function and no `Display`: the type is of `style`, which knows nothing of a page's words.
 pub(crate) fn content_keyword_name(keyword: AlignContentKeyword) -> &'static str
     ensures { meaning_of result.now content_keywords ≡ Some keyword }
 {

@@ -24,7 +24,7 @@ pub(crate) struct Draft {
 fn check(met: bool, expected: Expected) -> Result<(), Expected>
     ensures { result ≡ (if met then Ok tt else Err expected) }
 {
-    met.then_some(()).ok_or(expected)
+    if met { Ok(()) } else { Err(expected) }
 }
 
 impl Draft {

@@ -5,7 +5,7 @@ ghost use Rattle.page_text.specs.declared.read_error.ReadFault.TheVariants.{Unre
 use std::alloc::AllocFailed;
 use std::fmt;
 
-// What was expected.
+// What was expected. Columns and rows, width and height are variants of their own, since each has its own words.
 #[derive(Clone, Copy, Debug, PartialEq, Eq)]
 pub enum Expected {
     Utf8,

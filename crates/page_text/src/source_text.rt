@@ -59,7 +59,7 @@ impl<'a> SourceText<'a> {
             .split_once(':')
             .ok_or(self.refusal(Expected::Declaration))?;
         let taken = container.declare(property.trim(), value.trim());
-        // Not `self.refusal(expected)`: of a closure that calls it no caller learns the line.
+        // Not by `refusal`: what a closure that calls it answers is not known, and so not the line.
         taken.map_err(|expected| ReadError::new(self.line, expected, Some(self.text)))
     }
 

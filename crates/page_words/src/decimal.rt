@@ -76,7 +76,7 @@ impl Decimal {
     }
 }
 
-// The number that a word is, if it is one of at most seven digits.
+// The number that a word is, if it is one of at most seven digits. Not `str::parse`, which takes signs, exponents and any number of digits as well.
 pub fn read_decimal(word: &str) -> Option<f32>
     ensures { result ≡ decimal word.now }
 {

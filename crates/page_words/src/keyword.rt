@@ -4,7 +4,7 @@ ghost use Rattle.page_words.specs.Keywords.{meaning_of, properties, directions, 
 
 use style::alignment::{AlignContentKeyword, AlignmentSafety, Direction};
 
-// What is named by a word: `words` has each word with its meaning.
+// What is named by a word: `words` has each word with its meaning. Not `FromStr`, since three of the four types are another crate's.
 pub trait Keyword: Sized {
     ghost words: { List (List ℕ × Self) };
 

@@ -114,7 +114,7 @@ fn measure_round<H: LayoutPartialTree>(host: &mut H, span: u16, rounds: usize) -
     requires { H.ordered host.old }
     ensures { H.ordered host.new }
 {
-    // Counted in the loop: of a host that a closure changes nothing would be known afterwards.
+    // A loop, not `filter(..).count()`: after a closure that changes the host a proof knows nothing of the host.
     let mut unanswered = 0u32;
     for width in (0..span).cycle().take(rounds) {
         if host.measure(about(7, f32::from(width))).is_err() {

@@ -16,7 +16,7 @@ fn case_len(input: &[u8]) -> usize
     }
     input
         .windows(3)
-        .position(|bytes| matches!(bytes, b"\n~\n"))
+        .position(|bytes| bytes == b"\n~\n".as_slice())
         .map_or(input.len(), |end| end + 1)
 }
 

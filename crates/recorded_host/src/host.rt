@@ -17,7 +17,7 @@ use tree::layout::{Layout, LayoutOutput, OofCandidate};
 use tree::question::Question;
 use tree::traits::{LayoutGridContainer, LayoutPartialTree};
 
-// Lists: a table keeps its records in the order in which they were added, and the first for a question counts.
+// Lists and no maps: the contracts of `add_*` name every record that was added, and a question, which holds numbers of f32, has neither an order nor a hash.
 #[derive(Drop)]
 pub struct RecordedHost {
     nodes: NodeTable<NodeRecord>,

@@ -1,3 +1,4 @@
+// The first answer counts, and only for a node that the host has.
 use crate::host::RecordedHost;
 use crate::records::{MeasurementRecord, NodeRecord};
 use geometry::Size;
@@ -45,15 +46,13 @@ fn first_answer_of_a_known_node(rt: HostRuntime) -> Result<(), Fail> {
     host.add_measurement(measurement(1, 30.0))?;
     host.add_measurement(measurement(1, 40.0))?;
     host.add_measurement(measurement(2, 50.0))?;
-    match host.measure(question(1)) {
-        Ok(size) => assert!(rt; size.height == 30.0),
-        Err(_) => return Err(Fail::new("no answer")),
-    }
-    match host.measure(question(2)) {
-        Ok(_) => Err(Fail::new("an answer for an unknown node")),
-        Err(fault) => {
-            assert!(rt; u32::from(fault.reason) == 1);
-            Ok(())
-        },
-    }
+    let Ok(size) = host.measure(question(1)) else {
+        return Err(Fail::new("no answer"));
+    };
+    assert!(rt; size.height == 30.0);
+    let Err(fault) = host.measure(question(2)) else {
+        return Err(Fail::new("an answer for an unknown node"));
+    };
+    assert!(rt; u32::from(fault.reason) == 1);
+    Ok(())
 }

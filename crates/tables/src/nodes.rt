@@ -35,7 +35,7 @@ impl<R: OfNode> Keyed<u64> for Slot<R> {
     }
 }
 
-// No map by node: records stay in the order in which they were added, and the first of a node counts.
+// A list and no map by node: the contract of `add` names every record that was added, also a second one of a node, which a map would drop.
 #[derive(Drop)]
 pub struct NodeTable<R> {
     slots: Vec<Slot<R>>,
@@ -92,6 +92,7 @@ impl<R: OfNode + Copy> NodeTable<R> {
         ensures layouts { layout_at R.OfNode.names self.new ≡ layouts_with R.OfNode.names self.old node layout.now }
     {
         let unknown = HostReason::UnknownNode.about(node, None);
+        // By place: after `iter_mut().find(..)` a proof does not know the other slots any more.
         let place = first_place(&self.slots, &node).ok_or(unknown)?;
         self.slots[place].layout = Some(*layout);
         Ok(())

@@ -1,3 +1,4 @@
+// A text that is broken into lines, through its host.
 use crate::host::TextHost;
 use crate::text::TextRecord;
 use geometry::Size;

@@ -65,6 +65,7 @@ impl TextRecord {
         ensures held { in_bounds self.now ≡ true → between self.now.longest_word self.now.letters result ≡ true }
     {
         let cells = saturating_f32_to_u32(width / nearest_u32_to_f32(self.cell_width));
+        // No `clamp`, which asks that the ends do not cross: in a text out of bounds they may.
         cells.min(self.letters).max(self.longest_word)
     }
 

@@ -32,17 +32,7 @@ fn ends_are_in_range(rt: HostRuntime) {
 fn first_of_two(rt: HostRuntime) {
     let mut style = Style::DEFAULT;
     style.margin.left = LengthPercentageAuto::Length(LengthPercentage::Px(1048577.0));
-    assert!(rt;
-        matches!(
-            first_out_of_range(&style),
-            Some(StyleField::Margin(Side::Left))
-        )
-    );
+    assert!(rt; first_out_of_range(&style) == Some(StyleField::Margin(Side::Left)));
     style.max_size.height = Dimension::FitContentFunction(LengthPercentage::Percent(1024.5));
-    assert!(rt;
-        matches!(
-            first_out_of_range(&style),
-            Some(StyleField::MaxSize(AbsoluteAxis::Vertical))
-        )
-    );
+    assert!(rt; first_out_of_range(&style) == Some(StyleField::MaxSize(AbsoluteAxis::Vertical)));
 }
