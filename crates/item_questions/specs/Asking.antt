@@ -9,12 +9,13 @@ use Rattle.style.specs.declared.length.AvailableSpace.TheVariants.{Definite, Min
 use Rattle.style.specs.declared.range.StyleField.{StyleField}
 use Rattle.style.specs.declared.style.Style.{Style}
 use Rattle.tree.specs.Meaning.{Means, measures, lays_out, fetches, styles_at, Counts}
+use Rattle.tree.specs.Numbers.{every_size}
 use Rattle.tree.specs.declared.fault.HostFault.{HostFault}
 use Rattle.tree.specs.declared.layout.LayoutOutput.{LayoutOutput}
 use Rattle.tree.specs.declared.layout.OofCandidate.{OofCandidate}
 use Rattle.tree.specs.declared.question.Question.{Question}
 use Rattle.tree.specs.declared.traits.LayoutPartialTree.{Ghosts}
-use Rattle.item_questions.specs.Within.{size_within, layout_in_limits, candidate_in_limits}
+use Rattle.item_questions.specs.Within.{layout_in_limits, candidate_in_limits}
 use Rattle.item_questions.specs.declared.fault.ItemFault.{ItemFault}
 use Rattle.item_questions.specs.declared.fault.ItemFault.TheVariants.{Host, StyleOutOfRange, SizeOutOfLimits, LayoutOutOfLimits, CandidateOutOfLimits}
 
@@ -50,7 +51,7 @@ taken in_range fault (Ok a) = cond (in_range a) (Ok a) (Err fault)
 
 -- both sides of a measured size count, whichever was wanted
 abbrev pub measured : Means → Question → Result (Size Float) ItemFault
-measured m q = taken (size_within in_limits) SizeOutOfLimits (measures m (unsigned q))
+measured m q = taken (every_size in_limits) SizeOutOfLimits (measures m (unsigned q))
 
 abbrev pub laid_out : Means → Question → Result LayoutOutput ItemFault
 laid_out m q = taken layout_in_limits LayoutOutOfLimits (lays_out m (unsigned q))
