@@ -9,13 +9,12 @@ use Rattle.style.specs.declared.length.AvailableSpace.TheVariants.{Definite, Min
 use Rattle.style.specs.declared.range.StyleField.{StyleField}
 use Rattle.style.specs.declared.style.Style.{Style}
 use Rattle.tree.specs.Meaning.{Means, measures, lays_out, fetches, styles_at, Counts}
-use Rattle.tree.specs.Numbers.{every_size}
+use Rattle.tree.specs.Numbers.{every_size, every_layout, every_candidate}
 use Rattle.tree.specs.declared.fault.HostFault.{HostFault}
 use Rattle.tree.specs.declared.layout.LayoutOutput.{LayoutOutput}
 use Rattle.tree.specs.declared.layout.OofCandidate.{OofCandidate}
 use Rattle.tree.specs.declared.question.Question.{Question}
 use Rattle.tree.specs.declared.traits.LayoutPartialTree.{Ghosts}
-use Rattle.item_questions.specs.Within.{layout_in_limits, candidate_in_limits}
 use Rattle.item_questions.specs.declared.fault.ItemFault.{ItemFault}
 use Rattle.item_questions.specs.declared.fault.ItemFault.TheVariants.{Host, StyleOutOfRange, SizeOutOfLimits, LayoutOutOfLimits, CandidateOutOfLimits}
 
@@ -48,6 +47,13 @@ unsigned q = record {
 abbrev pub taken : {A : Type 0} → (A → Bool) → ItemFault → Result A HostFault → Result A ItemFault
 taken in_range fault (Err f) = Err (Host f)
 taken in_range fault (Ok a) = cond (in_range a) (Ok a) (Err fault)
+
+-- what is not there is in limits
+abbrev pub layout_in_limits : LayoutOutput → Bool
+layout_in_limits = every_layout in_limits
+
+abbrev pub candidate_in_limits : OofCandidate → Bool
+candidate_in_limits = every_candidate in_limits
 
 -- both sides of a measured size count, whichever was wanted
 abbrev pub measured : Means → Question → Result (Size Float) ItemFault
