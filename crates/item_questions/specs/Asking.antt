@@ -9,12 +9,12 @@ use Rattle.style.specs.declared.length.AvailableSpace.TheVariants.{Definite, Min
 use Rattle.style.specs.declared.range.StyleField.{StyleField}
 use Rattle.style.specs.declared.style.Style.{Style}
 use Rattle.tree.specs.Meaning.{Means, measures, lays_out, fetches, styles_at, Counts}
+use Rattle.tree.specs.Numbers.{every_size, every_layout, every_candidate}
 use Rattle.tree.specs.declared.fault.HostFault.{HostFault}
 use Rattle.tree.specs.declared.layout.LayoutOutput.{LayoutOutput}
 use Rattle.tree.specs.declared.layout.OofCandidate.{OofCandidate}
 use Rattle.tree.specs.declared.question.Question.{Question}
 use Rattle.tree.specs.declared.traits.LayoutPartialTree.{Ghosts}
-use Rattle.item_questions.specs.Within.{size_within, layout_in_limits, candidate_in_limits}
 use Rattle.item_questions.specs.declared.fault.ItemFault.{ItemFault}
 use Rattle.item_questions.specs.declared.fault.ItemFault.TheVariants.{Host, StyleOutOfRange, SizeOutOfLimits, LayoutOutOfLimits, CandidateOutOfLimits}
 
@@ -48,9 +48,16 @@ abbrev pub taken : {A : Type 0} → (A → Bool) → ItemFault → Result A Host
 taken in_range fault (Err f) = Err (Host f)
 taken in_range fault (Ok a) = cond (in_range a) (Ok a) (Err fault)
 
+-- what is not there is in limits
+abbrev pub layout_in_limits : LayoutOutput → Bool
+layout_in_limits = every_layout in_limits
+
+abbrev pub candidate_in_limits : OofCandidate → Bool
+candidate_in_limits = every_candidate in_limits
+
 -- both sides of a measured size count, whichever was wanted
 abbrev pub measured : Means → Question → Result (Size Float) ItemFault
-measured m q = taken (size_within in_limits) SizeOutOfLimits (measures m (unsigned q))
+measured m q = taken (every_size in_limits) SizeOutOfLimits (measures m (unsigned q))
 
 abbrev pub laid_out : Means → Question → Result LayoutOutput ItemFault
 laid_out m q = taken layout_in_limits LayoutOutOfLimits (lays_out m (unsigned q))

@@ -1,18 +1,19 @@
 // Each question to the host, once: with its zeros unsigned, its answer checked against the limits.
 ghost use Rattle.std.specs.Prelude.{◌≡◌};
+ghost use Rattle.number.specs.Limits.{in_limits};
 ghost use Rattle.tree.specs.Meaning.{raise};
 ghost use Rattle.item_questions.specs.Asking.{unsigned_option, unsigned_space, unsigned as unsigned_question, taken, Asked};
 ghost use Rattle.item_questions.specs.Asking.{measured, laid_out, fetched, styled};
 
 use crate::fault::ItemFault;
-use crate::in_limits::InLimits;
 use geometry::Size;
-use number::without_zero_sign;
+use number::{in_limits, without_zero_sign};
 use style::length::AvailableSpace;
 use style::range::first_out_of_range;
 use style::style::Style;
 use tree::fault::HostFault;
 use tree::layout::{LayoutOutput, OofCandidate};
+use tree::numbers::Numbers;
 use tree::question::Question;
 use tree::traits::{LayoutGridContainer, LayoutPartialTree};
 
@@ -43,11 +44,11 @@ fn unsigned(question: Question) -> Question
 }
 
 // The answer, if each of its numbers is in limits.
-fn taken<A: InLimits>(answer: Result<A, HostFault>, fault: ItemFault) -> Result<A, ItemFault>
-    ensures { result ≡ taken A.within fault answer }
+fn taken<A: Numbers>(answer: Result<A, HostFault>, fault: ItemFault) -> Result<A, ItemFault>
+    ensures { result ≡ taken (A.every in_limits) fault answer }
 {
     let answer = answer?;
-    if answer.in_limits() {
+    if answer.every_number(&in_limits) {
         Ok(answer)
     } else {
         Err(fault)
@@ -103,5 +104,8 @@ pub fn style_of<H: LayoutGridContainer>(host: &H, node: u64) -> Result<Style, It
     ensures { result ≡ styled (H.LayoutPartialTree.meaning host.now).means node }
 {
     let style = host.style(node)?;
-    first_out_of_range(&style).map_or(Ok(style), |field| Err(ItemFault::StyleOutOfRange(field)))
+    match first_out_of_range(&style) {
+        Some(field) => Err(ItemFault::StyleOutOfRange(field)),
+        None => Ok(style),
+    }
 }

@@ -17,7 +17,7 @@ pub enum ItemFault {
     CandidateOutOfLimits(u32),
 }
 
-// 11 where the host did not answer, 12 where a number is out of range.
+// The numbers that docs/RULES.md gives the refusals: 11 where the host did not answer, 12 where a number is out of range.
 impl From<ItemFault> for u8 {
     ghost from_gives = { λ fault n. n ≡ fault_number fault };
 

@@ -3,4 +3,3 @@
 
 pub mod asking;
 pub mod fault;
-mod in_limits;

@@ -1,4 +1,4 @@
--- Equality in every bit, and a test of every number: of a number, and of what is made of numbers.
+-- Equality in every bit: of a number, and of what is made of numbers.
 use Rattle.std.specs.Prelude.{Bool, true, false, not, ◌&&◌, Some, None, Option, ◌==◌, is_nan, to_bits, Float}
 use Rattle.std.specs.Float.{binary32}
 use Rattle.geometry.specs.declared.Size.{Size}
@@ -18,10 +18,6 @@ same_option same None (Some b) = false
 same_option same (Some a) None = false
 same_option same (Some a) (Some b) = same a b
 
-abbrev pub every_option : {A : Type 0} → (A → Bool) → Option A → Bool
-every_option test None = true
-every_option test (Some a) = test a
-
 abbrev pub same_space : AvailableSpace → AvailableSpace → Bool
 same_space (Definite a) (Definite b) = same_f32 a b
 same_space (Definite a) MinContent = false
@@ -33,13 +29,5 @@ same_space MaxContent (Definite b) = false
 same_space MaxContent MinContent = false
 same_space MaxContent MaxContent = true
 
-abbrev pub every_space : (Float → Bool) → AvailableSpace → Bool
-every_space test (Definite x) = test x
-every_space test MinContent = true
-every_space test MaxContent = true
-
 abbrev pub same_size : {A : Type 0} → (A → A → Bool) → Size A → Size A → Bool
 same_size same a b = same a.width b.width && same a.height b.height
-
-abbrev pub every_size : {A : Type 0} → (A → Bool) → Size A → Bool
-every_size test a = test a.width && test a.height

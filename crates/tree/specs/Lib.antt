@@ -1,4 +1,5 @@
 pub mod Bits
+pub mod Numbers
 pub mod Questions
 pub mod Faults
 pub mod Meaning

@@ -5,7 +5,8 @@ use Rattle.style.specs.declared.modes.SizingMode.TheVariants.{ContentSize, Inher
 use Rattle.style.specs.declared.modes.RequestedAxis.{RequestedAxis}
 use Rattle.style.specs.declared.modes.RequestedAxis.TheVariants.{Horizontal, Vertical, Both}
 use Rattle.tree.specs.declared.question.Question.{Question}
-use Rattle.tree.specs.Bits.{same_f32, same_option, same_space, same_size, is_number, every_option, every_space, every_size}
+use Rattle.tree.specs.Bits.{same_f32, same_option, same_space, same_size, is_number}
+use Rattle.tree.specs.Numbers.{every_option, every_space, every_size}
 
 abbrev pub same_mode : SizingMode → SizingMode → Bool
 same_mode ContentSize ContentSize = true

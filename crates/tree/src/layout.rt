@@ -1,4 +1,7 @@
 // What a layout answers, what is stored of it, and a candidate: an out-of-flow box that an ancestor has yet to place.
+ghost use Rattle.tree.specs.Numbers.{every_layout, every_candidate};
+
+use crate::numbers::Numbers;
 use geometry::{Line, Point, Rect, Size};
 use style::alignment::AlignmentSafety;
 
@@ -32,6 +35,15 @@ pub struct OofCandidate {
     pub static_position: Point<AxisStaticPosition>,
 }
 
+impl Numbers for OofCandidate {
+    ghost every = { every_candidate };
+
+    fn every_number<F: Fn(f32) -> bool>(self, passes: &F) -> bool {
+        self.static_position.x.area.every_number(passes)
+            && self.static_position.y.area.every_number(passes)
+    }
+}
+
 // The answer to a layout. Its candidates are fetched one by one, by index, so that an answer holds no memory of its own.
 #[derive(Clone, Copy)]
 pub struct LayoutOutput {
@@ -39,6 +51,16 @@ pub struct LayoutOutput {
     pub scrollable_overflow_rect: Rect<f32>,
     pub first_baseline: Option<f32>,
     pub candidate_count: u32,
+}
+
+impl Numbers for LayoutOutput {
+    ghost every = { every_layout };
+
+    fn every_number<F: Fn(f32) -> bool>(self, passes: &F) -> bool {
+        self.size.every_number(passes)
+            && self.scrollable_overflow_rect.every_number(passes)
+            && self.first_baseline.every_number(passes)
+    }
 }
 
 // Where a node stands in its parent, and the widths of what surrounds its content.

@@ -5,5 +5,6 @@ pub mod bits;
 pub mod fault;
 pub mod laws;
 pub mod layout;
+pub mod numbers;
 pub mod question;
 pub mod traits;

@@ -5,6 +5,7 @@ ghost use Rattle.tree.specs.Bits.{is_number};
 ghost use Rattle.tree.specs.Questions.{same_question, every_number, answers_for};
 
 use crate::bits::SameBits;
+use crate::numbers::Numbers;
 use geometry::Size;
 use style::length::AvailableSpace;
 use style::modes::{RequestedAxis, SizingMode};
@@ -26,8 +27,6 @@ pub struct Question {
 impl SameBits for Question {
     ghost alike = { same_question };
 
-    ghost every = { every_number };
-
     fn same_bits(self, other: Question) -> bool {
         self.node == other.node
             && self.known_dimensions.same_bits(other.known_dimensions)
@@ -36,6 +35,10 @@ impl SameBits for Question {
             && self.sizing_mode == other.sizing_mode
             && self.axis == other.axis
     }
+}
+
+impl Numbers for Question {
+    ghost every = { every_number };
 
     fn every_number<F: Fn(f32) -> bool>(self, passes: &F) -> bool {
         self.known_dimensions.every_number(passes)

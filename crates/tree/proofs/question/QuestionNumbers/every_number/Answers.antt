@@ -1,6 +1,6 @@
 use Rattle.std.proofs.Common.{rules}
-use Rattle.tree.proofs.question.QuestionSameBits.every_number.Goals as goal
-use Rattle.tree.proofs.question.QuestionSameBits.every_number.Goals.{then-every_number, else-every_number}
+use Rattle.tree.proofs.question.QuestionNumbers.every_number.Goals as goal
+use Rattle.tree.proofs.question.QuestionNumbers.every_number.Goals.{then-every_number, else-every_number}
 
 pub returns-then-every_number-2 : goal.returns-then-every_number-2
 returns-then-every_number-2 g c = λ test h.
