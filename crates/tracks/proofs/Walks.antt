@@ -1,8 +1,8 @@
 -- One turn and the end of the walk along an axis that is reversed or not.
-use Rattle.std.proofs.Common.{◌≡◌, ℕ, zero, suc, ◌+◌, ◌-◌, ◌%◌, ◌<◌, ◌≤◌, Bool, true, false, not, eqb, List, [], ◌∷◌, ◌++◌, reverse, length, get_or, take, drop, set, sym, refl, ap, ◌∙◌, append_assoc, add-zero, arith}
+use Rattle.std.proofs.Common.{◌≡◌, ℕ, zero, suc, ◌+◌, ◌-◌, ◌%◌, ◌<◌, Bool, true, false, not, eqb, List, [], ◌∷◌, ◌++◌, reverse, length, get_or, take, drop, set, sym, refl, ap, ◌∙◌, append_assoc, arith}
 use Rattle.std.proofs.lemmas.Bool.Decides.{nat_tests}
-use Rattle.std.proofs.lemmas.List.{take_more_set, take_all, drop-set-lt, at_drop_more, at_drop_all, append-nil, reverse-append, reverse-reverse, length-reverse, length-set, get_or-reverse, set_at, set-append_left}
-use Rattle.tracks.specs.Tracks.{positioned, onward, walked, starts_odd, in_order}
+use Rattle.std.proofs.lemmas.List.{take_more_set, drop-set-lt, at_drop_more, reverse-append, reverse-reverse, length-reverse, length-set, get_or-reverse, set_at, set-append_left}
+use Rattle.tracks.specs.Tracks.{positioned, onward, walked, in_order}
 use Rattle.tracks.specs.declared.grid_track.GridTrack.{GridTrack}
 use Rattle.tracks.specs.declared.walk.TrackWalk.{TrackWalk}
 use Rattle.tracks.proofs.Counts.{odd_next}
@@ -16,10 +16,6 @@ stored_at true n k = n - 1 - k
 abbrev pub is_odd : (rev : Bool) (n k : ℕ) → Bool
 is_odd false n k = eqb (k % 2) 1
 is_odd true n k = eqb ((n + k) % 2) 0
-
-pub starts : (rev : Bool) (n : ℕ) → is_odd rev n 0 ≡ starts_odd rev n
-starts false n = refl
-starts true n = ap (λ (m : ℕ). eqb (m % 2) 0) (add-zero n)
 
 pub odd_there : (rev : Bool) (n k : ℕ) → k < n → eqb (stored_at rev n k % 2) 1 ≡ is_odd rev n k
 odd_there false n k h = refl
@@ -71,19 +67,9 @@ onward_more odd ws k w v u d l hu hv =
     let j = append_assoc (take k ws) (u ∷ []) (walked (not odd) v (drop (k + 1) ws)) in
     cc
 
-onward_all : (odd : Bool) (ws : List GridTrack) (k : ℕ) (w : TrackWalk) → length ws ≤ k → Onward odd ws k w ≡ ws
-onward_all odd ws k w l =
-    let a = take_all k ws l in
-    let e : walked odd w (drop k ws) ≡ [] = at_drop_all (walked odd w) ws k l in
-    let n = append-nil ws in
-    cc
-
 -- what the walk leaves, in its order, once it went k places and stands at w
 abbrev pub Left : (rev : Bool) → List GridTrack → ℕ → TrackWalk → List GridTrack
 Left rev ts k w = Onward (is_odd rev (length ts) k) (in_order rev ts) k w
-
-pub left_first : (rev : Bool) (ts : List GridTrack) (w : TrackWalk) → Left rev ts 0 w ≡ walked (starts_odd rev (length ts)) w (in_order rev ts)
-left_first rev ts w = ap (λ odd. walked odd w (in_order rev ts)) (starts rev (length ts))
 
 pub left_more : (rev : Bool) (ts all : List GridTrack) (k i : ℕ) (w v : TrackWalk) (u d : GridTrack) → k < length ts → i ≡ stored_at rev (length ts) k
     → u ≡ positioned (eqb (i % 2) 1) w (get_or ts i d) → v ≡ onward (eqb (i % 2) 1) w (get_or ts i d) → Left rev ts k w ≡ all → Left rev (set ts i u) (k + 1) v ≡ all
@@ -100,8 +86,3 @@ left_more rev ts all k i w v u d l at hu hv inv =
     let hv' : v ≡ onward (is_odd rev n k) w (get_or ws k d) = cc in
     let one = onward_more (is_odd rev n k) ws k w v u d h hu' hv' in
     ap (λ q. Onward (is_odd rev q (k + 1)) (in_order rev (set ts i u)) (k + 1) v) m ∙ ap (λ xs. Onward (is_odd rev n (k + 1)) xs (k + 1) v) s ∙ ap (λ odd. Onward odd (set ws k u) (k + 1) v) p ∙ one ∙ inv
-
-pub left_all : (rev : Bool) (ts all : List GridTrack) (k : ℕ) (w : TrackWalk) → length ts ≤ k → Left rev ts k w ≡ all → ts ≡ in_order rev all
-left_all rev ts all k w l inv =
-    let h : length (in_order rev ts) ≤ k = omega (arith, length_in_order rev ts) in
-    sym (twice_in_order rev ts) ∙ ap (in_order rev) (sym (onward_all (is_odd rev (length ts) k) (in_order rev ts) k w h) ∙ inv)
