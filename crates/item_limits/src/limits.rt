@@ -78,7 +78,7 @@ impl SideLength {
 }
 
 impl Limits {
-    // From the style's minimum and maximum, as lengths of the box that `box-sizing` names. Plain arguments: a struct would be made for this call alone.
+    // From the style's minimum and maximum, as lengths of the box that `box-sizing` names. Plain arguments: a struct of the four would have no other use.
     pub fn of_style(
         min: Option<f32>,
         max: Option<f32>,

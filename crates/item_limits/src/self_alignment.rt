@@ -7,7 +7,7 @@ use geometry::AbsoluteAxis;
 use style::alignment::{AlignItems, Direction};
 
 // The item's own alignment, else the container's; `self-start` and `self-end` by the direction of the item. The inline axis is the horizontal one.
-// Plain arguments: a struct would be made for this call alone.
+// Plain arguments: a struct of the five would have no other use.
 #[tactic(auto, using(crate::proofs::SelfAlignment::container_relative))]
 pub fn self_alignment(
     own: Option<AlignItems>,
@@ -25,7 +25,7 @@ pub fn self_alignment(
 }
 
 // Where `normal` behaves as `stretch`, per CSS Grid 1, section 6.2; elsewhere it behaves as `start`. In flow a box with a ratio takes its height from its width.
-// Plain arguments: a method of an `ItemAxis` would ask for eleven parts where four count.
+// Plain arguments: a method of an `ItemAxis` would ask for ten parts where four count.
 pub fn normal_fills(
     axis: AbsoluteAxis,
     is_out_of_flow: bool,

@@ -40,7 +40,7 @@ impl SizingItem {
     }
 
     // The maximum of an answered width: its own, else that of the height, carried over. `max_height` reads the same in the other axis;
-    // a function for both would take each of the three places that differ.
+    // a function for both would still match on the axis for the box of the ratio.
     fn max_width(self) -> Option<SideLength>
         ensures { result ≡ max_width self }
     {
