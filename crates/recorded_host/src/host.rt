@@ -98,7 +98,7 @@ impl RecordedHost {
         ensures { result ≡ answers (recorded_means self.now) question.node (Some question) (find (λ r. R.Keyed.fits r key.now) records.now) }
     {
         self.nodes.record(question.node, Some(question))?;
-        find(records, key).ok_or(HostReason::NoAnswer.about(question.node, Some(question)))
+        find(records, key).ok_or_else(|| HostReason::NoAnswer.about(question.node, Some(question)))
     }
 }
 
@@ -110,13 +110,13 @@ impl LayoutPartialTree for RecordedHost {
     ghost tallied = { λ _. None };
 
     fn measure(&mut self, question: Question) -> Result<Size<f32>, HostFault> {
-        self.answer(question, &self.measurements, &question)
-            .map(|found| found.size)
+        let found = self.answer(question, &self.measurements, &question)?;
+        Ok(found.size)
     }
 
     fn perform_layout(&mut self, question: Question) -> Result<LayoutOutput, HostFault> {
-        self.answer(question, &self.layouts, &question)
-            .map(|found| found.output)
+        let found = self.answer(question, &self.layouts, &question)?;
+        Ok(found.output)
     }
 
     fn fetch_candidate(
@@ -124,8 +124,8 @@ impl LayoutPartialTree for RecordedHost {
         question: Question,
         index: u32,
     ) -> Result<OofCandidate, HostFault> {
-        self.answer(question, &self.candidates, &(question, index))
-            .map(|found| found.candidate)
+        let found = self.answer(question, &self.candidates, &(question, index))?;
+        Ok(found.candidate)
     }
 
     fn calc(&self, handle: u32, basis: f32) -> f32 {
@@ -144,6 +144,8 @@ impl LayoutPartialTree for RecordedHost {
 impl LayoutGridContainer for RecordedHost {
     fn style(&self, node: u64) -> Result<Style, HostFault> {
         let found = self.nodes.record(node, None)?;
-        found.style.ok_or(HostReason::UnknownNode.about(node, None))
+        found
+            .style
+            .ok_or_else(|| HostReason::UnknownNode.about(node, None))
     }
 }

@@ -75,14 +75,15 @@ impl<R: OfNode + Copy> NodeTable<R> {
     fn slot(&self, node: u64, question: Option<Question>) -> Result<Slot<R>, HostFault>
         ensures { result ≡ ok_or (slot_at R.OfNode.names self.now node) (unknown_node node question) }
     {
-        find(&self.slots, &node).ok_or(HostReason::UnknownNode.about(node, question))
+        find(&self.slots, &node).ok_or_else(|| HostReason::UnknownNode.about(node, question))
     }
 
     // The first record of a node.
     pub fn record(&self, node: u64, question: Option<Question>) -> Result<R, HostFault>
         ensures { result ≡ ok_or (held_at R.OfNode.names self.now node) (unknown_node node question) }
     {
-        self.slot(node, question).map(|slot| slot.held)
+        let slot = self.slot(node, question)?;
+        Ok(slot.held)
     }
 
     // The layout goes to the node's first record, in place of the one before.
@@ -103,6 +104,7 @@ impl<R: OfNode + Copy> NodeTable<R> {
         ensures { result ≡ (if is_some (held_at R.OfNode.names self.now node) then ok_or (layout_at R.OfNode.names self.now node) (no_answer node None) else Err (unknown_node node None)) }
     {
         let slot = self.slot(node, None)?;
-        slot.layout.ok_or(HostReason::NoAnswer.about(node, None))
+        slot.layout
+            .ok_or_else(|| HostReason::NoAnswer.about(node, None))
     }
 }
