@@ -105,7 +105,8 @@ fn first_side_out_of_range<L: InRange>(rect: &Rect<L>) -> Option<Side>
     ensures { result ≡ first_failing (λ side. L.InRange.allowed (side_of rect.now side)) sides }
 {
     [Side::Left, Side::Right, Side::Top, Side::Bottom]
-        .into_iter()
+        .iter()
+        .copied()
         .find(|side| !side_of(rect, *side).in_range())
 }
 
@@ -114,7 +115,8 @@ fn first_extent_out_of_range<L: InRange + Copy>(size: &Size<L>) -> Option<Absolu
     ensures { result ≡ first_failing (λ axis. L.InRange.allowed (extent axis size.now)) axes }
 {
     [AbsoluteAxis::Horizontal, AbsoluteAxis::Vertical]
-        .into_iter()
+        .iter()
+        .copied()
         .find(|axis| !size.get_abs(*axis).in_range())
 }
 
