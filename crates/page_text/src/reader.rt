@@ -28,13 +28,15 @@ pub fn read_page(heap: Global, input: &[u8]) -> Result<PageDescription, ReadFaul
         ReadError::new(line_of(input, error.valid_up_to()), Expected::Utf8, None)
     })?;
     let mut draft = Draft::new(heap);
+    let mut line = 0usize;
     for (i, said) in text.lines().enumerate() {
-        let line = i.saturating_add(1);
+        line = i.saturating_add(1);
         draft.read_line(SourceText { line, text: said })?;
     }
-    let page = draft.finish().map_err(|expected| {
-        let end = text.lines().count().saturating_add(1);
-        ReadError::new(end, expected, None)
-    })?;
+    let page = draft.finish().map_err(|expected| ReadError::new(
+        line.saturating_add(1),
+        expected,
+        None,
+    ))?;
     Ok(page)
 }
