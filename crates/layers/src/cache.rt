@@ -38,6 +38,13 @@ impl<H: LayoutPartialTree> Cache<H> {
         &self.below
     }
 
+    // What it remembers.
+    pub fn memory(&self) -> &Memory
+        ensures { result.now ≡ entries_of self.now }
+    {
+        &self.memory
+    }
+
     pub fn into_inner(self) -> H
         ensures { result ≡ self.below }
     {

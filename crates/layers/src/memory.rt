@@ -1,5 +1,5 @@
 // What a cache remembers: measurements that were answered, the oldest first, 64 at most.
-ghost use Rattle.std.specs.Prelude.{◌≡◌, true, [], IfSome, IfOk, Some, None, Ok};
+ghost use Rattle.std.specs.Prelude.{◌≡◌, ◌≤◌, true, [], IfSome, IfOk, Some, None, Ok, length};
 ghost use Rattle.tree.specs.Bits.{is_number};
 ghost use Rattle.tree.specs.Questions.{every_number};
 ghost use Rattle.tree.specs.Meaning.{Means, measures};
@@ -43,6 +43,14 @@ impl Memory {
     {
         let entries = HeapCircularBuffer::with_capacity(heap, Memory::PLACES)?;
         Ok(Memory { entries })
+    }
+
+    // How many measurements it remembers. Callers learn from it that there are never more than there are places.
+    pub fn len(&self) -> usize
+        ensures value { result ≡ length self.now }
+        ensures few { length self.now ≤ 64 }
+    {
+        self.entries.len()
     }
 
     // The answer to the first measurement that answers for the question.
