@@ -9,10 +9,11 @@ use Rattle.tracks.specs.declared.grid_track.GridTrack.{GridTrack}
 pub odd_next : (n : ℕ) → eqb ((n + 1) % 2) 1 ≡ not (eqb (n % 2) 1)
 odd_next n = grind (arith, nat_tests)
 
--- a sum that saturates counts the live tracks, where it has room for all
+-- one step of a sum that saturates: a track and its index
 abbrev pub counted : ℕ → ℕ × GridTrack → ℕ
 counted n p = min (n + cond (live (eqb (p.0 % 2) 1) p.1) 1 0) (2 ^ 64 - 1)
 
+-- it counts the live tracks, where it has room for all
 pub live_by_fold : (n k : ℕ) (ts : List GridTrack) → k + length ts < 2 ^ 64 → fold counted k (enumerate_from n ts) ≡ k + live_count (eqb (n % 2) 1) ts
 live_by_fold n k [] room = omega arith
 live_by_fold n k (t ∷ ts) room =

